@@ -1,0 +1,71 @@
+use spd_list::Seq;
+use sqlite_items::Boxed;
+
+/// The bytes of a name.
+pub type Name = Seq<u8>;
+
+/// The bytes of a string, without its quotes and the backslashes of its escapes.
+pub type Lit = Seq<u8>;
+
+/// An operator between two operands.
+#[derive(Clone, Copy, Debug, PartialEq, Eq)]
+pub enum BinOp {
+    Add,
+}
+
+/// An expression.
+#[derive(Drop)]
+pub enum Expr {
+    Number(i64),
+    Var(Name),
+    Binary(BinOp, Boxed<Expr>, Boxed<Expr>),
+}
+
+/// A part of a `print`: a string, or an expression whose value is printed.
+#[derive(Drop)]
+pub enum PrintPart {
+    Lit(Lit),
+    Value(Expr),
+}
+
+/// The parts of a `print`, of which there is at least one.
+pub type Parts = Seq<PrintPart>;
+
+/// What a statement does.
+#[derive(Drop)]
+pub enum StmtKind {
+    Let { name: Name, value: Expr },
+    Print { parts: Parts },
+}
+
+/// A statement, with the line of its first token.
+#[derive(Drop)]
+pub struct Stmt {
+    pub line: u32,
+    pub what: StmtKind,
+}
+
+/// The statements between two braces.
+pub type Block = Seq<Stmt>;
+
+/// What an item declares.
+#[derive(Drop)]
+pub enum ItemKind {
+    Main { body: Block },
+}
+
+/// An item, with the line of its first token.
+#[derive(Drop)]
+pub struct Item {
+    pub line: u32,
+    pub what: ItemKind,
+}
+
+/// The items of a program, in the order of its text.
+pub type Items = Seq<Item>;
+
+/// A program.
+#[derive(Drop)]
+pub struct Program {
+    pub items: Items,
+}
