@@ -1,0 +1,44 @@
+-- The answers of the top call.
+use Rattle.std.proofs.Common.{◌≡◌, ◌≢◌, ℕ, List, [], Some, IfSome, codes, ◌⊎◌, inl, inr}
+use Rattle.std.specs.Prelude.{IsSomeAnd}
+use Rattle.spd_io.specs.Shelf.{ShelfState, FailedAt}
+use Rattle.spd_io.specs.Sink.{SinkState, Gets, GetsFront}
+use Rattle.spd_syntax.specs.declared.tree.Program.{Program}
+use Rattle.spd_top.specs.Meaning.{Writes, output_from, body_of}
+use Rattle.spd_top.specs.Serving.{Bytes, operand_of, of_file, Outcome, GetsOrFails, unread, Says, WantsMemory, Runs, ran, out_stopped, memory_stopped, Answer, as_defined, out_failed, err_failed, no_memory, no_more_memory}
+use Rattle.spd_top.proofs.Putting.{gets_nothing}
+
+module _ (words : List Bytes) (shelf shelf' : ShelfState) (out err err' : SinkState) where
+  abbrev answers : ℕ → Type 0
+  answers status = Answer words shelf shelf' out out err err' status
+
+  -- a status that is told by a line, with nothing for `out`
+  pub said : (status : ℕ) (line : Bytes) (result : ℕ) → Outcome words shelf.file status [] line → status ≢ 4 → Says status err err' line result → answers result
+  said status line result outcome other (inl s) = rw s.0 (as_defined status [] line outcome (gets_nothing out) s.1)
+  said status line result outcome other (inr s) = rw s.0 (err_failed status [] line outcome other (gets_nothing out) s.1)
+
+  pub wanted : (result : ℕ) → WantsMemory err err' result → answers result
+  wanted result w = rw w.0 (no_memory (gets_nothing out) w.1)
+
+  pub said_or_wanted : (status : ℕ) (line : Bytes) (result : ℕ) → Outcome words shelf.file status [] line → status ≢ 4 → Says status err err' line result ⊎ WantsMemory err err' result → answers result
+  said_or_wanted status line result outcome other (inl s) = said status line result outcome other s
+  said_or_wanted status line result outcome other (inr w) = wanted result w
+
+  -- a program that could not be read
+  pub not_read : (name : Bytes) (result : ℕ) → operand_of words ≡ Some name → FailedAt shelf shelf' name → ((result ≡ 4) × GetsOrFails err err' (of_file name (codes "read failed"))) ⊎ WantsMemory err err' result → answers result
+  not_read name result operand failed (inl s) = rw s.0 (unread name operand failed (gets_nothing out) s.1)
+  not_read name result operand failed (inr w) = wanted result w
+
+-- a program that was run
+pub has_run : (words : List Bytes) (shelf shelf' : ShelfState) (program : Program) (out out' err err' : SinkState) (result : ℕ) → ((bytes : Bytes) → Writes program bytes → Outcome words shelf.file 0 bytes [])
+    → Runs program out out' err err' result → Answer words shelf shelf' out out' err err' result
+has_run words shelf shelf' program out out' err err' result outcome (ran bytes writes got told) = as_defined 0 bytes [] (outcome bytes writes) got told
+has_run words shelf shelf' program out out' err err' result outcome (out_stopped bytes writes fails told) = out_failed 0 bytes [] (outcome bytes writes) fails told
+has_run words shelf shelf' program out out' err err' result outcome (memory_stopped bytes writes front told) = no_more_memory 0 bytes [] (outcome bytes writes) front told
+
+-- what a run put, by what the program writes
+pub put_all : (program : Program) (bytes : Bytes) (out out' : SinkState) → Writes program bytes → IsSomeAnd (output_from [] (body_of program)) (λ z. Gets out out' z) → Gets out out' bytes
+put_all program bytes out out' writes h = rw writes at h
+
+pub put_front : (program : Program) (bytes : Bytes) (out out' : SinkState) → Writes program bytes → IfSome (output_from [] (body_of program)) (λ z. GetsFront out out' z) → GetsFront out out' bytes
+put_front program bytes out out' writes h = rw writes at h

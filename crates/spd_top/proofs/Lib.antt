@@ -1,0 +1,12 @@
+pub mod Numbers
+pub mod Repeat
+pub mod Symbols
+pub mod ReadIsSpelled
+pub mod SpelledIsRead
+pub mod Spelling
+pub mod Operators
+pub mod Putting
+pub mod Runs
+pub mod NotBuilt
+pub mod Values
+pub mod Answering

@@ -1,0 +1,99 @@
+-- What a command line over files defines, and what is answered where files, sinks or memory fail.
+use Rattle.std.specs.Prelude.{◌≡◌, ◌≢◌, ℕ, ◌≤◌, Bool, false, not, ◌&&◌, ◌==◌, if◌then◌else◌, List, [], ◌∷◌, ◌++◌, length, Option, Some, None, codes, ◌⊎◌}
+use Rattle.std.specs.Str.{bytes_eq}
+use Rattle.spd_io.specs.Shelf.{FileTold, Missing, MayBe, MayExceed, ShelfState, FailedAt}
+use Rattle.spd_io.specs.Sink.{SinkState, Gets, GetsFront, Failed}
+use Rattle.spd_syntax.specs.declared.tree.Program.{Program}
+use Rattle.spd_syntax.specs.Limits.{max_text}
+use Rattle.spd_top.specs.Meaning.{Writes}
+use Rattle.spd_top.specs.Built.{IsBuilt}
+
+abbrev pub Bytes : Type 0
+Bytes = List ℕ
+
+-- ---- words
+
+-- It has a byte, and doesn't begin with `-`.
+abbrev pub is_operand : Bytes → Bool
+is_operand [] = false
+is_operand (b ∷ z) = not (b == 45)
+
+-- the operand of `elide`; nothing where the words are refused
+abbrev pub operand_of : List Bytes → Option Bytes
+operand_of [] = None
+operand_of (command ∷ []) = None
+operand_of (command ∷ operand ∷ []) = if bytes_eq command (codes "elide") && is_operand operand then Some operand else None
+operand_of (command ∷ operand ∷ more ∷ others) = None
+
+-- ---- the lines that tell a status
+
+abbrev pub end_of_line : Bytes
+end_of_line = 10 ∷ []
+
+abbrev pub words_refused : Bytes
+words_refused = codes "spd: words refused" ++ end_of_line
+
+abbrev pub out_of_memory : Bytes
+out_of_memory = codes "spd: out of memory" ++ end_of_line
+
+abbrev pub write_failed : Bytes
+write_failed = codes "spd: write failed" ++ end_of_line
+
+-- what is told of a file
+abbrev pub of_file : Bytes → Bytes → Bytes
+of_file name what = codes "spd: " ++ name ++ codes ": " ++ what ++ end_of_line
+
+-- ---- the outcome: a status, the bytes for `out` and the line for `err`
+
+pub data Outcome (words : List Bytes) (file : Bytes → FileTold) : ℕ → Bytes → Bytes → Type 0 where
+  refused : operand_of words ≡ None → Outcome words file 2 [] words_refused
+  missing : (name : Bytes) → operand_of words ≡ Some name → file name ≡ Missing → Outcome words file 4 [] (of_file name (codes "read failed"))
+  too_long : (name : Bytes) → operand_of words ≡ Some name → MayExceed (file name) max_text → Outcome words file 1 [] (of_file name (codes "TooLong"))
+  not_built : (name text : Bytes) → operand_of words ≡ Some name → MayBe (file name) text → length text ≤ max_text → ((program : Program) → IsBuilt text program → ⊥)
+      → Outcome words file 1 [] (of_file name (codes "NotBuilt"))
+  done : (name text : Bytes) (program : Program) (bytes : Bytes) → operand_of words ≡ Some name → MayBe (file name) text → length text ≤ max_text → IsBuilt text program → Writes program bytes
+      → Outcome words file 0 bytes []
+
+-- ---- the answer
+
+-- A sink failed, and got the first of the bytes.
+abbrev pub FailsIn : SinkState → SinkState → Bytes → Type 0
+FailsIn old new bytes = Failed old new × GetsFront old new bytes
+
+-- A sink got the bytes, or failed in them.
+abbrev pub GetsOrFails : SinkState → SinkState → Bytes → Type 0
+GetsOrFails old new bytes = Gets old new bytes ⊎ FailsIn old new bytes
+
+-- A status was told by its line, or is 5 where the sink failed in the line.
+abbrev pub Says : ℕ → SinkState → SinkState → Bytes → ℕ → Type 0
+Says status old new line result = ((result ≡ status) × Gets old new line) ⊎ ((result ≡ 5) × FailsIn old new line)
+
+-- The answer is 7, for want of memory.
+abbrev pub WantsMemory : SinkState → SinkState → ℕ → Type 0
+WantsMemory old new result = (result ≡ 7) × GetsOrFails old new out_of_memory
+
+-- What a run of a program wrote, and its status.
+pub data Runs (program : Program) (out out' err err' : SinkState) : ℕ → Type 0 where
+  ran : (bytes : Bytes) → Writes program bytes → Gets out out' bytes → Gets err err' [] → Runs program out out' err err' 0
+  out_stopped : (bytes : Bytes) → Writes program bytes → FailsIn out out' bytes → GetsOrFails err err' write_failed → Runs program out out' err err' 5
+  memory_stopped : (bytes : Bytes) → Writes program bytes → GetsFront out out' bytes → GetsOrFails err err' out_of_memory → Runs program out out' err err' 7
+
+-- What was answered, by what shelf, `out` and `err` were before and after.
+pub data Answer (words : List Bytes) (shelf shelf' : ShelfState) (out out' err err' : SinkState) : ℕ → Type 0 where
+  -- the outcome
+  as_defined : (status : ℕ) (bytes line : Bytes) → Outcome words shelf.file status bytes line → Gets out out' bytes → Gets err err' line
+      → Answer words shelf shelf' out out' err err' status
+  -- The program's file could not be read.
+  unread : (name : Bytes) → operand_of words ≡ Some name → FailedAt shelf shelf' name → Gets out out' [] → GetsOrFails err err' (of_file name (codes "read failed"))
+      → Answer words shelf shelf' out out' err err' 4
+  -- `out` failed in the bytes of the outcome.
+  out_failed : (status : ℕ) (bytes line : Bytes) → Outcome words shelf.file status bytes line → FailsIn out out' bytes → GetsOrFails err err' write_failed
+      → Answer words shelf shelf' out out' err err' 5
+  -- `err` failed in the line of the outcome, which isn't that of a file that could not be read.
+  err_failed : (status : ℕ) (bytes line : Bytes) → Outcome words shelf.file status bytes line → status ≢ 4 → Gets out out' bytes → FailsIn err err' line
+      → Answer words shelf shelf' out out' err err' 5
+  -- Memory ran out before anything was put to `out`.
+  no_memory : Gets out out' [] → GetsOrFails err err' out_of_memory → Answer words shelf shelf' out out' err err' 7
+  -- Memory ran out when `out` had got the first of the bytes of the outcome.
+  no_more_memory : (status : ℕ) (bytes line : Bytes) → Outcome words shelf.file status bytes line → GetsFront out out' bytes → GetsOrFails err err' out_of_memory
+      → Answer words shelf shelf' out out' err err' 7

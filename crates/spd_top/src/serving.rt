@@ -1,0 +1,70 @@
+ghost use Rattle.std.specs.Prelude.{◌≡◌, ◌⊎◌, ℕ, List, [], Some, None, IsSome};
+ghost use Rattle.spd_io.specs.Shelf.{FailedAt, ChangesNoOther};
+ghost use Rattle.spd_io.specs.Sink.{Failed};
+ghost use Rattle.spd_top.specs.Checks.{check_from};
+ghost use Rattle.spd_top.specs.Meaning.{body_of};
+ghost use Rattle.spd_top.specs.Serving.{operand_of, Answer, Runs};
+
+use crate::building::{body_of, build};
+use crate::limits::MAX_TEXT;
+use crate::reading::ReadError;
+use crate::running::{RunError, run};
+use crate::status;
+use crate::telling::{fail_read, out_of_memory, refuse_program, refuse_words, tell};
+use crate::words::Words;
+use spd_io::{Shelf, ShelfFault, Sink};
+use spd_syntax::Program;
+use std::alloc::Global;
+
+/// Runs a program, and answers the status.
+fn run_program<O: Sink, E: Sink>(alloc: Global, program: &Program, out: &mut O, err: &mut E) -> u8
+    requires { IsSome (check_from [] (body_of program.now)) }
+    ensures { Runs program.now (O.state out.old) (O.state out.new) (E.state err.old) (E.state err.new) result }
+{
+    match run(alloc, body_of(program), out) {
+        Ok(()) => status::DONE,
+        Err(RunError::WriteFailed) => {
+            tell(err, b"spd: write failed\n");
+            status::WRITE_FAILED
+        }
+        Err(RunError::NoMemory) => out_of_memory(err),
+        Err(RunError::Unbound) => unreachable!(),
+    }
+}
+
+/// Does what the words of a command line say, over a shelf of files, a sink for the output and one
+/// for errors, and answers the status that the command ends with.
+///
+/// It does `elide PROGRAM`; every other list of words is refused. It always returns.
+pub fn serve_still<F: Shelf, O: Sink, E: Sink>(
+    alloc: Global,
+    words: &Words,
+    shelf: &mut F,
+    out: &mut O,
+    err: &mut E,
+) -> u8
+    // The status, the bytes and the line are those of the outcome, unless a read, a sink or memory failed.
+    ensures answer { Answer words.now (F.state shelf.old) (F.state shelf.new) (O.state out.old) (O.state out.new) (E.state err.old) (E.state err.new) result }
+    // Where the words are refused, the shelf isn't called.
+    ensures uncalled { operand_of words.now ≡ None → shelf.new ≡ shelf.old }
+    // No file but PROGRAM is read.
+    ensures others { (name : List ℕ) → operand_of words.now ≡ Some name → ChangesNoOther (F.state shelf.old) (F.state shelf.new) name }
+    // 4 comes only where a read of PROGRAM failed, and 5 only where a sink failed.
+    ensures read_cause { (name : List ℕ) → operand_of words.now ≡ Some name → result ≡ 4 → FailedAt (F.state shelf.old) (F.state shelf.new) name }
+    ensures write_cause { result ≡ 5 → Failed (O.state out.old) (O.state out.new) ⊎ Failed (E.state err.old) (E.state err.new) }
+{
+    let Some(name) = words.operand() else {
+        return refuse_words(err);
+    };
+    let text = match shelf.read(alloc, name, MAX_TEXT) {
+        Ok(text) => text,
+        Err(ShelfFault::TooLong) => return refuse_program(alloc, err, name, "TooLong"),
+        Err(ShelfFault::Failed) => return fail_read(alloc, err, name),
+        Err(ShelfFault::NoMemory) => return out_of_memory(err),
+    };
+    match build(alloc, &text) {
+        Ok(program) => run_program(alloc, &program, out, err),
+        Err(ReadError::NotBuilt) => refuse_program(alloc, err, name, "NotBuilt"),
+        Err(ReadError::NoMemory) => out_of_memory(err),
+    }
+}

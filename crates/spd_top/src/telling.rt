@@ -1,0 +1,73 @@
+ghost use Rattle.std.specs.Prelude.{◌≡◌, ◌⊎◌, codes, string_bytes, IfOk};
+ghost use Rattle.spd_top.specs.Serving.{words_refused, out_of_memory, of_file, GetsOrFails, Says, WantsMemory};
+
+use crate::status;
+use spd_io::{Sink, write_all_of};
+use std::alloc::{AllocError, Global};
+
+/// Puts a line. Where `err` fails, it has got the first of its bytes.
+pub(crate) fn tell<E: Sink>(err: &mut E, line: &[u8])
+    ensures { GetsOrFails (E.state err.old) (E.state err.new) line.now }
+{
+    let _ = write_all_of(err, line);
+}
+
+/// Puts the line of a status, and answers the status; or 5 where `err` fails.
+fn say<E: Sink>(err: &mut E, line: &[u8], status: u8) -> u8
+    ensures { Says status (E.state err.old) (E.state err.new) line.now result }
+{
+    match write_all_of(err, line) {
+        Ok(()) => status,
+        Err(_) => status::WRITE_FAILED,
+    }
+}
+
+/// Tells that the words are refused, and answers 2; or 5 where `err` fails.
+pub fn refuse_words<E: Sink>(err: &mut E) -> u8
+    ensures { Says 2 (E.state err.old) (E.state err.new) words_refused result }
+{
+    say(err, b"spd: words refused\n", status::WORDS_REFUSED)
+}
+
+/// Tells that memory ran out, and answers 7, also where `err` fails.
+pub fn out_of_memory<E: Sink>(err: &mut E) -> u8
+    ensures { WantsMemory (E.state err.old) (E.state err.new) result }
+{
+    tell(err, b"spd: out of memory\n");
+    status::OUT_OF_MEMORY
+}
+
+/// The line that tells something of a file.
+fn file_line(alloc: Global, name: &str, what: &str) -> Result<String, AllocError>
+    ensures { IfOk result (λ line. string_bytes line ≡ of_file name.now what.now) }
+{
+    let mut line = String::from_str(alloc, "spd: ")?;
+    line.push_str(name)?;
+    line.push_str(": ")?;
+    line.push_str(what)?;
+    line.push_str("\n")?;
+    Ok(line)
+}
+
+/// Tells that a program is refused, and answers 1; or 5 where `err` fails.
+pub(crate) fn refuse_program<E: Sink>(alloc: Global, err: &mut E, name: &str, kind: &str) -> u8
+    ensures { Says 1 (E.state err.old) (E.state err.new) (of_file name.now kind.now) result ⊎ WantsMemory (E.state err.old) (E.state err.new) result }
+{
+    match file_line(alloc, name, kind) {
+        Ok(line) => say(err, line.as_bytes(), status::PROGRAM_REFUSED),
+        Err(_) => out_of_memory(err),
+    }
+}
+
+/// Tells that a file could not be read, and answers 4, also where `err` fails.
+pub(crate) fn fail_read<E: Sink>(alloc: Global, err: &mut E, name: &str) -> u8
+    ensures { ((result ≡ 4) × GetsOrFails (E.state err.old) (E.state err.new) (of_file name.now (codes "read failed"))) ⊎ WantsMemory (E.state err.old) (E.state err.new) result }
+{
+    match file_line(alloc, name, "read failed") {
+        Ok(line) => {
+            tell(err, line.as_bytes());
+            status::READ_FAILED
+        }
+        Err(_) => out_of_memory(err),
+    }
+}
