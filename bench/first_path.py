@@ -2,7 +2,7 @@
 """Measures `spd elide` in one run on this machine, and prints ratios.
 
 Usage: bench/first_path.py [PROGRAM], from the top of the repository, where PROGRAM is the built
-program (crates/spd/out/spd if left out; `rt run spd -- elide examples/hello.sp` builds it).
+program (crates/spd/out/spd if left out; the README's first command builds it).
 
 What it prints is a measurement of one run, and no promise.
 """
@@ -35,16 +35,10 @@ def prints(size):
 
 
 def peak_kib(command):
-    """The peak resident memory of a command, in KiB."""
-    pid = os.fork()
-    if pid == 0:
-        with open(os.devnull, "wb") as null:
-            os.dup2(null.fileno(), 1)
-        os.execv(command[0], command)
-    _, status, usage = os.wait4(pid, 0)
-    if status != 0:
-        sys.exit(f"{command}: status {status}")
-    return usage.ru_maxrss
+    """The peak resident memory of a command, in KiB, by Debian's package `time`."""
+    timed = ["/usr/bin/time", "-f", "%M", *command]
+    done = subprocess.run(timed, stdout=subprocess.DEVNULL, stderr=subprocess.PIPE, text=True, check=True)
+    return int(done.stderr.split()[-1])
 
 
 def smallest_stack_kib(command):
