@@ -3,7 +3,7 @@ ghost use Rattle.spd_io.specs.Shelf.{FailedAt, ChangesNoOther};
 ghost use Rattle.spd_io.specs.Sink.{Failed};
 ghost use Rattle.spd_top.specs.Checks.{check_from};
 ghost use Rattle.spd_top.specs.Meaning.{body_of};
-ghost use Rattle.spd_top.specs.Serving.{operand_of, Answer, Runs};
+ghost use Rattle.spd_top.specs.Serving.{operand_of, words_refused, Says, Answer, Runs};
 
 use crate::building::{body_of, build};
 use crate::limits::MAX_TEXT;
@@ -45,7 +45,8 @@ pub fn serve_still<F: Shelf, O: Sink, E: Sink>(
 ) -> u8
     // The status, the bytes and the line are those of the outcome, unless a read, a sink or memory failed.
     ensures answer { Answer words.now (F.state shelf.old) (F.state shelf.new) (O.state out.old) (O.state out.new) (E.state err.old) (E.state err.new) result }
-    // Where the words are refused, the shelf isn't called.
+    // Refused words are told as such, whatever memory there is, and the shelf isn't called.
+    ensures refused { operand_of words.now ≡ None → Says 2 (E.state err.old) (E.state err.new) words_refused result }
     ensures uncalled { operand_of words.now ≡ None → shelf.new ≡ shelf.old }
     // No file but PROGRAM is read.
     ensures others { (name : List ℕ) → operand_of words.now ≡ Some name → ChangesNoOther (F.state shelf.old) (F.state shelf.new) name }

@@ -17,6 +17,9 @@ type ProgramRow = (&'static [u8], u32, u32, Answer);
 /// Words, the read and the call of err that are to fail, or 0, and what is answered.
 type CommandRow = (&'static [&'static str], u32, u32, Answer);
 
+/// The text before each sum of ones, the operators of the sums, and what is answered.
+type SumRow = (&'static str, &'static [u32], Answer);
+
 static PROGRAMS: [ProgramRow; 20] = [
     (b"main { }", 0, 0, (b"", b"", 0)),
     (b"main { print \"n=\", 1+2; }", 0, 0, (b"n=3\n", b"", 0)),
@@ -151,6 +154,17 @@ static NOT_PROGRAMS: [&[u8]; 46] = [
     b"main { print 1 + \"a\"; }",
 ];
 
+static SUMS: [SumRow; 5] = [
+    (", ", &[1000], (b"1001\n", b"", 0)),
+    (", ", &[1001], NOT_BUILT),
+    (", ", &[400, 600], (b"401601\n", b"", 0)),
+    (", ", &[600, 600], NOT_BUILT),
+    ("; print ", &[600, 600], (b"\n601\n601\n", b"", 0)),
+];
+
+/// How many names a program binds, and what is answered.
+static NAMES: [(u32, Answer); 2] = [(64, (b"63\n", b"", 0)), (65, NOT_BUILT)];
+
 static COMMANDS: [CommandRow; 22] = [
     (&["elide", "help"], 0, 0, (b"7\n", b"", 0)),
     (&["elide", "help"], 2, 0, (b"7\n", b"", 0)),
@@ -255,6 +269,17 @@ fn ones(alloc: Global, operators: u32) -> Result<String, AllocError> {
     Ok(sum)
 }
 
+/// A program that prints sums of ones with so many operators, with a text before each.
+fn printing(alloc: Global, before: &str, sums: &[u32]) -> Result<String, AllocError> {
+    let mut text = String::from_str(alloc, "main { print \"\"")?;
+    for operators in sums {
+        text.push_str(before)?;
+        text.push_str(ones(alloc, *operators)?.as_str())?;
+    }
+    text.push_str("; }")?;
+    Ok(text)
+}
+
 /// A program that binds the names n0, n1 .., each to its number, and prints n63.
 fn binding(alloc: Global, names: u32) -> Result<String, AllocError> {
     let mut text = String::from_str(alloc, "main { ")?;
@@ -278,6 +303,22 @@ fn expect_not_built(
 ) -> Result<(), AllocError> {
     for text in texts {
         expect_of(rt, text, (0, 0), NOT_BUILT)?;
+    }
+    Ok(())
+}
+
+fn expect_sums(rt: &(impl Abort + AllocGlobal), rows: &[SumRow]) -> Result<(), AllocError> {
+    for (before, sums, answer) in rows {
+        let text = printing(rt.alloc(), before, sums)?;
+        expect_of(rt, text.as_bytes(), (0, 0), *answer)?;
+    }
+    Ok(())
+}
+
+fn expect_names(rt: &(impl Abort + AllocGlobal), rows: &[(u32, Answer)]) -> Result<(), AllocError> {
+    for (names, answer) in rows {
+        let text = binding(rt.alloc(), *names)?;
+        expect_of(rt, text.as_bytes(), (0, 0), *answer)?;
     }
     Ok(())
 }
@@ -306,36 +347,8 @@ fn expect_commands(
 fn programs_print_or_are_refused(rt: HostRuntime) -> Result<(), Fail> {
     expect_programs(&rt, &PROGRAMS)?;
     expect_not_built(&rt, &NOT_PROGRAMS)?;
-    Ok(())
-}
-
-#[test]
-fn programs_keep_the_limits(rt: HostRuntime) -> Result<(), Fail> {
-    let alloc = rt.alloc();
-    let many = ones(alloc, 600)?;
-    let texts = [
-        (binding(alloc, 64)?, (b"63\n".as_slice(), b"".as_slice(), 0)),
-        (binding(alloc, 65)?, NOT_BUILT),
-        (
-            format!(in alloc; "main {{ print {}; }}", ones(alloc, 1000)?)?,
-            (b"1001\n", b"", 0),
-        ),
-        (
-            format!(in alloc; "main {{ print {}; }}", ones(alloc, 1001)?)?,
-            NOT_BUILT,
-        ),
-        (
-            format!(in alloc; "main {{ print {many}, {many}; }}")?,
-            NOT_BUILT,
-        ),
-        (
-            format!(in alloc; "main {{ print {many}; print {many}; }}")?,
-            (b"601\n601\n", b"", 0),
-        ),
-    ];
-    for (text, answer) in &texts {
-        expect_of(&rt, text.as_bytes(), (0, 0), *answer)?;
-    }
+    expect_sums(&rt, &SUMS)?;
+    expect_names(&rt, &NAMES)?;
     Ok(())
 }
 
@@ -351,7 +364,7 @@ fn words_and_reads_are_told(rt: HostRuntime) -> Result<(), Fail> {
 }
 
 #[test]
-fn a_still_shelf_and_a_still_sink_serve(rt: HostRuntime) -> Result<(), Fail> {
+fn a_still_shelf_serves_and_want_of_memory_is_told(rt: HostRuntime) -> Result<(), Fail> {
     let alloc = rt.alloc();
     let mut shelf = StillShelf::new(alloc);
     shelf.add(alloc, "a.sp", b"main { print 7; }")?;
