@@ -1,6 +1,19 @@
-//! What programs mean when they run in order.
+//! The serial elision of a checked program.
 #![tactic(auto)]
 
+mod eliding;
+mod frames;
+mod insides;
+mod jobs;
+mod moving;
+mod opening;
+mod stepping;
 mod value;
 
-pub use value::{Binding, value_of};
+pub use eliding::{ElideRegions, elide_body};
+pub use frames::{Flow, Frame, Level, Step};
+pub use insides::{Collected, Inside, Machine, Met};
+pub use jobs::{Given, Job, JobBody, Regions, Vars};
+pub use opening::copy_of;
+pub use stepping::kind_of;
+pub use value::value_of;

@@ -1,41 +1,29 @@
-ghost use Rattle.std.specs.Prelude.{◌≡◌};
-ghost use Rattle.spd_elide.specs.Value.{lookup, eval};
+ghost use Rattle.std.specs.Prelude.{◌≡◌, ℕ, Ok, pos, slice_get, unwrap_or};
+ghost use Rattle.spd_elide.specs.Eval.{value};
 
-use spd_syntax::{BinOp, Expr, Name};
+use spd_check::CodeExpr;
+use spd_syntax::BinOp;
 
-/// A name and its value.
-#[derive(Drop)]
-pub struct Binding {
-    pub name: Name,
-    pub value: i64,
-}
-
-/// The value of a name.
-fn lookup(mut bindings: &[Binding], name: &[u8]) -> Option<i64>
-    ensures { result ≡ lookup bindings.entry.now name.now }
-{
-    while let [first, rest @ ..] = bindings {
-        if first.name.as_slice() == name {
-            return Some(first.value);
-        }
-        bindings = rest;
-    }
-    None
-}
-
-/// The value of an expression, or none where a name in it has none. Sums wrap.
+/// The value of an expression over the values of the visible names. Sums wrap.
 ///
-/// It calls itself once for each operator that stands inside another.
-pub fn value_of(expr: &Expr, bindings: &[Binding]) -> Option<i64>
-    ensures { result ≡ eval bindings.now expr.now }
+/// It calls itself once for each operator that stands inside another. A place without a value,
+/// which no checked program reads, reads 0.
+pub fn value_of(expr: &CodeExpr, vars: &[i64]) -> i64
+    ensures { (line : ℕ) → value expr.now vars.now line ≡ Ok result }
 {
     match expr {
-        Expr::Number(value) => Some(*value),
-        Expr::Var(name) => lookup(bindings, name.as_slice()),
-        Expr::Binary(BinOp::Add, left, right) => {
-            let left = value_of(left.get(), bindings)?;
-            let right = value_of(right.get(), bindings)?;
-            Some(left.wrapping_add(right))
+        CodeExpr::Number(value) => *value,
+        CodeExpr::Var(place) => value_at(vars, *place),
+        CodeExpr::Binary(BinOp::Add, left, right) => {
+            let left = value_of(left.get(), vars);
+            let right = value_of(right.get(), vars);
+            left.wrapping_add(right)
         }
     }
+}
+
+fn value_at(vars: &[i64], place: u32) -> i64
+    ensures { result ≡ unwrap_or (slice_get vars.now place) (pos 0) }
+{
+    vars.get(place as usize).copied().unwrap_or(0)
 }

@@ -1,13 +1,20 @@
 -- The programs of the language, as their tokens spell them.
 --
--- program = "main" "{" { stmt } "}"
--- stmt    = "let" name "=" expr ";" | "print" part { "," part } ";"
+-- program = "main" block
+-- block   = "{" { stmt } "}"
+-- stmt    = "let" name "=" expr ";"
+--         | "let" name "=" "finish" ("sum" | "least" | "greatest") block
+--         | "async" block
+--         | "finish" block
+--         | "offer" expr ";"
+--         | "print" part { "," part } ";"
 -- part    = string | expr
 -- expr    = primary { "+" primary }
 -- primary = number | name
 --
 -- A spelling is a tree with the line of each of its tokens.
-use Rattle.std.specs.Prelude.{◌≡◌, ℕ, pos, ◌+◌, ◌-◌, ◌*◌, ◌≤◌, Bool, true, false, if◌then◌else◌, ◌==◌, List, [], ◌∷◌}
+use Rattle.std.specs.Prelude.{◌≡◌, ℕ, zero, suc, pos, ◌+◌, ◌-◌, ◌*◌, ◌≤◌, Bool, true, false, if◌then◌else◌, ◌==◌, List, [], ◌∷◌}
+use Rattle.spd_syntax.specs.declared.token.Word.{Word}
 use Rattle.spd_syntax.specs.declared.token.Word.TheVariants as w
 use Rattle.spd_syntax.specs.declared.token.Mark.{Mark}
 use Rattle.spd_syntax.specs.declared.token.Mark.TheVariants as m
@@ -17,10 +24,13 @@ use Rattle.spd_syntax.specs.declared.tree.Expr.{Expr}
 use Rattle.spd_syntax.specs.declared.tree.Expr.TheVariants as e
 use Rattle.spd_syntax.specs.declared.tree.PrintPart.{PrintPart}
 use Rattle.spd_syntax.specs.declared.tree.PrintPart.TheVariants as p
+use Rattle.spd_syntax.specs.declared.tree.Collect.{Collect}
+use Rattle.spd_syntax.specs.declared.tree.Collect.TheVariants as c
 use Rattle.spd_syntax.specs.declared.tree.StmtKind.TheVariants as s
 use Rattle.spd_syntax.specs.declared.tree.Stmt.{Stmt}
 use Rattle.spd_syntax.specs.declared.tree.ItemKind.TheVariants as i
 use Rattle.spd_syntax.specs.declared.tree.Program.{Program}
+use Rattle.spd_syntax.specs.Limits.{max_depth}
 use Rattle.spd_syntax.specs.Tokens.{name, number, lit, word, mark, Seen}
 
 -- ---- what a number and a string stand for
@@ -137,65 +147,116 @@ abbrev pub PartsWithin : MoreParts → Type 0
 PartsWithin no_parts = Unit {0}
 PartsWithin (comma l x xs) = PartWithin x × PartsWithin xs
 
--- ---- statements
+-- ---- statements and blocks
 
-pub data Statement : Type 0 where
-  binding : (line name_line : ℕ) (text : List ℕ) (equals_line : ℕ) → Expression → (end_line : ℕ) → Statement
-  printing : (line : ℕ) → Part → MoreParts → (end_line : ℕ) → Statement
+abbrev pub collect_word : Collect → Word
+collect_word c.Sum = w.Sum
+collect_word c.Least = w.Least
+collect_word c.Greatest = w.Greatest
 
-abbrev pub IsStatement : Statement → Type 0
-IsStatement (binding l nl text el x l') = IsAt top x
-IsStatement (printing l x xs l') = IsPart x × AreParts xs
+mutual
+  pub data Statement : Type 0 where
+    binding : (line name_line : ℕ) (text : List ℕ) (equals_line : ℕ) → Expression → (end_line : ℕ) → Statement
+    collecting : (line name_line : ℕ) (text : List ℕ) (equals_line finish_line kind_line : ℕ) → Collect → Body → Statement
+    beginning : (line : ℕ) → Body → Statement
+    finishing : (line : ℕ) → Body → Statement
+    offering : (line : ℕ) → Expression → (end_line : ℕ) → Statement
+    printing : (line : ℕ) → Part → MoreParts → (end_line : ℕ) → Statement
 
-abbrev pub statement_tokens : Statement → List Seen → List Seen
-statement_tokens (binding l nl text el x l') r = (word w.Let, l) ∷ (name text, nl) ∷ (mark m.Assign, el) ∷ expression_tokens x ((mark m.Semicolon, l') ∷ r)
-statement_tokens (printing l x xs l') r = (word w.Print, l) ∷ part_tokens x (parts_tokens xs ((mark m.Semicolon, l') ∷ r))
+  pub data Body : Type 0 where
+    body : (open_line : ℕ) → Statements → (close_line : ℕ) → Body
 
-abbrev pub statement_tree : Statement → Stmt
-statement_tree (binding l nl text el x l') = record { line = l; what = s.Let text (expression_tree x) }
-statement_tree (printing l x xs l') = record { line = l; what = s.Print (part_tree x ∷ parts_trees xs) }
+  -- { stmt }
+  pub data Statements : Type 0 where
+    no_statements : Statements
+    next : Statement → Statements → Statements
 
-abbrev pub StatementWithin : Statement → Type 0
-StatementWithin (binding l nl text el x l') = ExpressionWithin x
-StatementWithin (printing l x xs l') = PartWithin x × PartsWithin xs
+abbrev mutual
+  pub IsStatement : Statement → Type 0
+  IsStatement (binding l nl text el x l') = IsAt top x
+  IsStatement (collecting l nl text el fl kl kind b) = IsBody b
+  IsStatement (beginning l b) = IsBody b
+  IsStatement (finishing l b) = IsBody b
+  IsStatement (offering l x l') = IsAt top x
+  IsStatement (printing l x xs l') = IsPart x × AreParts xs
 
--- { stmt }
-pub data Statements : Type 0 where
-  no_statements : Statements
-  next : Statement → Statements → Statements
+  pub IsBody : Body → Type 0
+  IsBody (body l xs l') = AreStatements xs
 
-abbrev pub AreStatements : Statements → Type 0
-AreStatements no_statements = Unit {0}
-AreStatements (next x xs) = IsStatement x × AreStatements xs
+  pub AreStatements : Statements → Type 0
+  AreStatements no_statements = Unit {0}
+  AreStatements (next x xs) = IsStatement x × AreStatements xs
 
-abbrev pub statements_tokens : Statements → List Seen → List Seen
-statements_tokens no_statements r = r
-statements_tokens (next x xs) r = statement_tokens x (statements_tokens xs r)
+abbrev mutual
+  pub statement_tokens : Statement → List Seen → List Seen
+  statement_tokens (binding l nl text el x l') r = (word w.Let, l) ∷ (name text, nl) ∷ (mark m.Assign, el) ∷ expression_tokens x ((mark m.Semicolon, l') ∷ r)
+  statement_tokens (collecting l nl text el fl kl kind b) r =
+      (word w.Let, l) ∷ (name text, nl) ∷ (mark m.Assign, el) ∷ (word w.Finish, fl) ∷ (word (collect_word kind), kl) ∷ body_tokens b r
+  statement_tokens (beginning l b) r = (word w.Async, l) ∷ body_tokens b r
+  statement_tokens (finishing l b) r = (word w.Finish, l) ∷ body_tokens b r
+  statement_tokens (offering l x l') r = (word w.Offer, l) ∷ expression_tokens x ((mark m.Semicolon, l') ∷ r)
+  statement_tokens (printing l x xs l') r = (word w.Print, l) ∷ part_tokens x (parts_tokens xs ((mark m.Semicolon, l') ∷ r))
 
-abbrev pub statements_trees : Statements → List Stmt
-statements_trees no_statements = []
-statements_trees (next x xs) = statement_tree x ∷ statements_trees xs
+  pub body_tokens : Body → List Seen → List Seen
+  body_tokens (body l xs l') r = (mark m.LeftBrace, l) ∷ statements_tokens xs ((mark m.RightBrace, l') ∷ r)
 
-abbrev pub StatementsWithin : Statements → Type 0
-StatementsWithin no_statements = Unit {0}
-StatementsWithin (next x xs) = StatementWithin x × StatementsWithin xs
+  pub statements_tokens : Statements → List Seen → List Seen
+  statements_tokens no_statements r = r
+  statements_tokens (next x xs) r = statement_tokens x (statements_tokens xs r)
+
+abbrev mutual
+  pub statement_tree : Statement → Stmt
+  statement_tree (binding l nl text el x l') = record { line = l; what = s.Let text (expression_tree x) }
+  statement_tree (collecting l nl text el fl kl kind b) = record { line = l; what = s.LetFinish text kind (body_trees b) }
+  statement_tree (beginning l b) = record { line = l; what = s.Async (body_trees b) }
+  statement_tree (finishing l b) = record { line = l; what = s.Finish (body_trees b) }
+  statement_tree (offering l x l') = record { line = l; what = s.Offer (expression_tree x) }
+  statement_tree (printing l x xs l') = record { line = l; what = s.Print (part_tree x ∷ parts_trees xs) }
+
+  pub body_trees : Body → List Stmt
+  body_trees (body l xs l') = statements_trees xs
+
+  pub statements_trees : Statements → List Stmt
+  statements_trees no_statements = []
+  statements_trees (next x xs) = statement_tree x ∷ statements_trees xs
+
+-- At most so many further braces are open at once, and no literal is too great.
+abbrev mutual
+  pub StatementWithin : ℕ → Statement → Type 0
+  StatementWithin depth (binding l nl text el x l') = ExpressionWithin x
+  StatementWithin depth (collecting l nl text el fl kl kind b) = BodyWithin depth b
+  StatementWithin depth (beginning l b) = BodyWithin depth b
+  StatementWithin depth (finishing l b) = BodyWithin depth b
+  StatementWithin depth (offering l x l') = ExpressionWithin x
+  StatementWithin depth (printing l x xs l') = PartWithin x × PartsWithin xs
+
+  pub BodyWithin : ℕ → Body → Type 0
+  BodyWithin zero (body l xs l') = ⊥
+  BodyWithin (suc depth) (body l xs l') = StatementsWithin depth xs
+
+  pub StatementsWithin : ℕ → Statements → Type 0
+  StatementsWithin depth no_statements = Unit {0}
+  StatementsWithin depth (next x xs) = StatementWithin depth x × StatementsWithin depth xs
 
 -- ---- programs
 
 pub data Main : Type 0 where
-  main : (line open_line : ℕ) → Statements → (close_line : ℕ) → Main
+  main : (line : ℕ) → Body → Main
 
 abbrev pub IsMain : Main → Type 0
-IsMain (main l ol xs cl) = AreStatements xs
+IsMain (main l b) = IsBody b
 
 abbrev pub main_tokens : Main → List Seen
-main_tokens (main l ol xs cl) = (word w.Main, l) ∷ (mark m.LeftBrace, ol) ∷ statements_tokens xs ((mark m.RightBrace, cl) ∷ [])
+main_tokens (main l b) = (word w.Main, l) ∷ body_tokens b []
+
+abbrev pub last_line : Body → ℕ
+last_line (body l xs l') = l'
 
 abbrev pub main_tree : Main → Program
-main_tree (main l ol xs cl) = record { items = record { line = l; what = i.Main (statements_trees xs) } ∷ [] }
+main_tree (main l b) = record { items = record { line = l; what = i.Main (body_trees b) } ∷ []; last_line = last_line b }
 
 abbrev pub MainWithin : Main → Type 0
-MainWithin (main l ol xs cl) = StatementsWithin xs
+MainWithin (main l b) = BodyWithin max_depth b
 
 -- The tokens spell the program.
 pub record Spells (tokens : List Seen) (program : Program) : Type 0 where

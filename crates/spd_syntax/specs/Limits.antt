@@ -1,8 +1,9 @@
 -- Limits that a program keeps.
 use Rattle.std.specs.Prelude.{◌≡◌, ℕ, ◌≤◌, Bool, true, false, List, ◌++◌, All, count_by}
+use Rattle.spd_syntax.specs.declared.token.Word.TheVariants as w
 use Rattle.spd_syntax.specs.declared.token.Mark.{Mark}
 use Rattle.spd_syntax.specs.declared.token.Mark.TheVariants as m
-use Rattle.spd_syntax.specs.Tokens.{Symbol, mark, Seen}
+use Rattle.spd_syntax.specs.Tokens.{Symbol, word, mark, Seen}
 
 -- the bytes of a program's text
 abbrev pub max_text : ℕ
@@ -11,6 +12,10 @@ max_text = 1048576
 -- the operators of a stretch of tokens
 abbrev pub max_operators : ℕ
 max_operators = 1000
+
+-- the brackets that are open at once
+abbrev pub max_depth : ℕ
+max_depth = 32
 
 -- the names that an item binds
 abbrev pub max_names : ℕ
@@ -52,3 +57,11 @@ abbrev pub KeepsOperators : List Seen → Type 0
 KeepsOperators tokens =
     (before stretch behind : List Seen) → tokens ≡ before ++ (stretch ++ behind) → All (λ t. ends_stretch t.0 ≡ false) stretch
     → count_by (λ t. is_operator t.0) stretch ≤ max_operators
+
+abbrev pub is_let : Symbol → Bool
+is_let (word w.Let) = true
+is_let _ = false
+
+-- At most 64 names are bound: each `let` binds one.
+abbrev pub KeepsNames : List Seen → Type 0
+KeepsNames tokens = count_by (λ t. is_let t.0) tokens ≤ max_names

@@ -8,7 +8,8 @@ mod tree;
 pub use lexing::{LexFault, LexKind, lex};
 pub use token::{MARKS, Mark, Token, TokenKind, Tokens, WORDS, Word};
 pub use tree::{
-    BinOp, Block, Expr, Item, ItemKind, Items, Lit, Name, Parts, PrintPart, Program, Stmt, StmtKind,
+    BinOp, Block, Collect, Expr, Item, ItemKind, Items, Lit, Name, Parts, PrintPart, Program, Stmt,
+    StmtKind,
 };
 
 #[cfg(test)]

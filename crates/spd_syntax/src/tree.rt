@@ -31,14 +31,43 @@ pub enum PrintPart {
 /// The parts of a `print`, of which there is at least one.
 pub type Parts = Seq<PrintPart>;
 
+/// What a finish with a value makes of its offers.
+#[derive(Clone, Copy, Debug, PartialEq, Eq)]
+pub enum Collect {
+    Sum,
+    Least,
+    Greatest,
+}
+
 /// What a statement does.
+#[cycle(stmt)]
 #[derive(Drop)]
 pub enum StmtKind {
-    Let { name: Name, value: Expr },
-    Print { parts: Parts },
+    Let {
+        name: Name,
+        value: Expr,
+    },
+    LetFinish {
+        name: Name,
+        kind: Collect,
+        body: Block,
+    },
+    Async {
+        body: Block,
+    },
+    Finish {
+        body: Block,
+    },
+    Offer {
+        value: Expr,
+    },
+    Print {
+        parts: Parts,
+    },
 }
 
 /// A statement, with the line of its first token.
+#[cycle(stmt)]
 #[derive(Drop)]
 pub struct Stmt {
     pub line: u32,
@@ -64,8 +93,9 @@ pub struct Item {
 /// The items of a program, in the order of its text.
 pub type Items = Seq<Item>;
 
-/// A program.
+/// A program, with the line of its last token, or 1 where it has none.
 #[derive(Drop)]
 pub struct Program {
     pub items: Items,
+    pub last_line: u32,
 }

@@ -1,10 +1,9 @@
 -- The answers of the top call.
-use Rattle.std.proofs.Common.{◌≡◌, ◌≢◌, ℕ, List, [], Some, IfSome, codes, ◌⊎◌, inl, inr}
-use Rattle.std.specs.Prelude.{IsSomeAnd}
+use Rattle.std.proofs.Common.{◌≡◌, ◌≢◌, ℕ, List, [], Some, codes, ◌⊎◌, inl, inr}
 use Rattle.spd_io.specs.Shelf.{ShelfState, FailedAt}
-use Rattle.spd_io.specs.Sink.{SinkState, Gets, GetsFront}
-use Rattle.spd_syntax.specs.declared.tree.Program.{Program}
-use Rattle.spd_top.specs.Meaning.{Writes, output_from, body_of}
+use Rattle.spd_io.specs.Sink.{SinkState}
+use Rattle.spd_check.specs.declared.code.CodeBlock.{CodeBlock}
+use Rattle.spd_top.specs.Meaning.{Writes}
 use Rattle.spd_top.specs.Serving.{Bytes, operand_of, of_file, Outcome, GetsOrFails, unread, Says, WantsMemory, Runs, ran, out_stopped, memory_stopped, Answer, as_defined, out_failed, err_failed, no_memory, no_more_memory}
 use Rattle.spd_top.proofs.Putting.{gets_nothing}
 
@@ -30,15 +29,8 @@ module _ (words : List Bytes) (shelf shelf' : ShelfState) (out err err' : SinkSt
   not_read name result operand failed (inr w) = wanted result w
 
 -- a program that was run
-pub has_run : (words : List Bytes) (shelf shelf' : ShelfState) (program : Program) (out out' err err' : SinkState) (result : ℕ) → ((bytes : Bytes) → Writes program bytes → Outcome words shelf.file 0 bytes [])
-    → Runs program out out' err err' result → Answer words shelf shelf' out out' err err' result
-has_run words shelf shelf' program out out' err err' result outcome (ran bytes writes got told) = as_defined 0 bytes [] (outcome bytes writes) got told
-has_run words shelf shelf' program out out' err err' result outcome (out_stopped bytes writes fails told) = out_failed 0 bytes [] (outcome bytes writes) fails told
-has_run words shelf shelf' program out out' err err' result outcome (memory_stopped bytes writes front told) = no_more_memory 0 bytes [] (outcome bytes writes) front told
-
--- what a run put, by what the program writes
-pub put_all : (program : Program) (bytes : Bytes) (out out' : SinkState) → Writes program bytes → IsSomeAnd (output_from [] (body_of program)) (λ z. Gets out out' z) → Gets out out' bytes
-put_all program bytes out out' writes h = rw writes at h
-
-pub put_front : (program : Program) (bytes : Bytes) (out out' : SinkState) → Writes program bytes → IfSome (output_from [] (body_of program)) (λ z. GetsFront out out' z) → GetsFront out out' bytes
-put_front program bytes out out' writes h = rw writes at h
+pub has_run : (words : List Bytes) (shelf shelf' : ShelfState) (main : CodeBlock) (out out' err err' : SinkState) (result : ℕ) → ((bytes : Bytes) → Writes main bytes → Outcome words shelf.file 0 bytes [])
+    → Runs main out out' err err' result → Answer words shelf shelf' out out' err err' result
+has_run words shelf shelf' main out out' err err' result outcome (ran bytes writes got told) = as_defined 0 bytes [] (outcome bytes writes) got told
+has_run words shelf shelf' main out out' err err' result outcome (out_stopped bytes writes fails told) = out_failed 0 bytes [] (outcome bytes writes) fails told
+has_run words shelf shelf' main out out' err err' result outcome (memory_stopped bytes writes front told) = no_more_memory 0 bytes [] (outcome bytes writes) front told

@@ -1,7 +1,6 @@
 pub mod Reading
-pub mod Checks
-pub mod Meaning
-pub mod Built
-pub mod Serving
 pub mod Operators
+pub mod Built
+pub mod Meaning
 pub mod Running
+pub mod Serving

@@ -1,48 +1,74 @@
--- What a program writes.
-use Rattle.std.specs.Prelude.{◌≡◌, ℕ, List, [], ◌∷◌, ◌++◌, Option, Some}
+-- What main writes.
+use Rattle.std.specs.Prelude.{◌≡◌, ℕ, ℤ, List, [], ◌∷◌, ◌++◌, Result, Ok, Err}
 use Rattle.std.specs.Fmt.{signed_decimal}
-use Rattle.spd_syntax.specs.declared.tree.PrintPart.{PrintPart}
-use Rattle.spd_syntax.specs.declared.tree.PrintPart.TheVariants as p
-use Rattle.spd_syntax.specs.declared.tree.StmtKind.TheVariants as s
-use Rattle.spd_syntax.specs.declared.tree.Stmt.{Stmt}
-use Rattle.spd_syntax.specs.declared.tree.ItemKind.TheVariants as i
-use Rattle.spd_syntax.specs.declared.tree.Item.{Item}
-use Rattle.spd_syntax.specs.declared.tree.Program.{Program}
-use Rattle.spd_elide.specs.declared.value.Binding.{Binding}
-use Rattle.spd_elide.specs.Value.{eval}
-use Rattle.spd_top.specs.Reading.{◌>>=◌}
+use Rattle.spd_check.specs.declared.code.CodePrintPart.{CodePrintPart}
+use Rattle.spd_check.specs.declared.code.CodePrintPart.TheVariants as p
+use Rattle.spd_check.specs.declared.code.CodeStmtKind.{out-CodeStmtKind}
+use Rattle.spd_check.specs.declared.code.CodeStmtKind.TheOpen as c
+use Rattle.spd_check.specs.declared.code.CodeStmt.{CodeStmt}
+use Rattle.spd_check.specs.declared.code.CodeBlock.{CodeBlock, out-CodeBlock}
+use Rattle.spd_elide.specs.Eval.{End, Fell, Back, Fault, value, eval_stmt, no_calls}
+
+-- ---- the text of a print
+
+abbrev pub with_text : Result (List ℕ) ℕ → (List ℕ → Result (List ℕ) ℕ) → Result (List ℕ) ℕ
+with_text (Ok text) next = next text
+with_text (Err code) next = Err code
+
+abbrev pub digits : Result ℤ ℕ → Result (List ℕ) ℕ
+digits (Ok n) = Ok (signed_decimal n)
+digits (Err code) = Err code
 
 -- a string as it is, or the decimal digits of a value
-abbrev pub part_text : List Binding → PrintPart → Option (List ℕ)
-part_text bindings (p.Lit text) = Some text
-part_text bindings (p.Value value) = eval bindings value >>= λ n. Some (signed_decimal n)
+abbrev pub part_text : CodePrintPart → List ℤ → ℕ → Result (List ℕ) ℕ
+part_text (p.Lit text) vars line = Ok text
+part_text (p.Value expr) vars line = digits (value expr vars line)
 
--- the texts of parts, one behind the other
-abbrev pub parts_text : List Binding → List PrintPart → Option (List ℕ)
-parts_text bindings [] = Some []
-parts_text bindings (part ∷ parts) = part_text bindings part >>= λ text. parts_text bindings parts >>= λ texts. Some (text ++ texts)
+-- the texts of parts, one behind the other, or the code of the first fault in them
+abbrev pub parts_text : List CodePrintPart → List ℤ → ℕ → Result (List ℕ) ℕ
+parts_text [] vars line = Ok []
+parts_text (part ∷ parts) vars line = with_text (part_text part vars line) (λ text. with_text (parts_text parts vars line) (λ texts. Ok (text ++ texts)))
 
--- what a statement leaves bound, and the bytes that it writes
-abbrev pub run_step : List Binding → s.the_data → Option (List Binding × List ℕ)
-run_step bindings (s.Let name value) = eval bindings value >>= λ n. Some (bindings ++ record { name = name; value = n } ∷ [], [])
-run_step bindings (s.Print parts) = parts_text bindings parts >>= λ text. Some (bindings, text ++ 10 ∷ [])
+-- ---- statements
 
--- the bytes that statements write, one after another; nothing where a name has no value
-abbrev pub output_from : List Binding → List Stmt → Option (List ℕ)
-output_from bindings [] = Some []
-output_from bindings (stmt ∷ stmts) = run_step bindings stmt.what >>= λ step. output_from step.0 stmts >>= λ bytes. Some (step.1 ++ bytes)
+-- the bytes that statements write, and how they end
+pub record Written : Type 0 where
+  pub bytes : List ℕ
+  pub end : End
 
-abbrev pub body_at : i.the_data → List Stmt
-body_at (i.Main body) = body
+abbrev pub line_written : Result (List ℕ) ℕ → List ℤ → Written
+line_written (Ok text) vars = record { bytes = text ++ 10 ∷ []; end = Fell vars }
+line_written (Err code) vars = record { bytes = []; end = Fault code }
 
-abbrev pub body_of_items : List Item → List Stmt
-body_of_items [] = []
-body_of_items (item ∷ items) = body_at item.what
+-- A print writes a line. Any other statement ends as its evaluation does, and writes nothing.
+abbrev pub kind_written : {A B C : Type 0} → c.CodeStmtKind-F A B C → CodeStmt → List ℤ → Written
+kind_written (c.Print parts) stmt vars = line_written (parts_text parts vars stmt.line) vars
+kind_written _ stmt vars = record { bytes = []; end = (eval_stmt no_calls stmt vars).end }
 
--- the statements of main
-abbrev pub body_of : Program → List Stmt
-body_of program = body_of_items program.items
+abbrev pub stmt_written : CodeStmt → List ℤ → Written
+stmt_written stmt vars = kind_written (out-CodeStmtKind stmt.what) stmt vars
 
--- The program writes these bytes.
-abbrev pub Writes : Program → List ℕ → Type 0
-Writes program bytes = output_from [] (body_of program) ≡ Some bytes
+abbrev pub with_more : List ℕ → Written → Written
+with_more bytes more = record { bytes = bytes ++ more.bytes; end = more.end }
+
+abbrev pub go_on : End → Written → (List ℤ → Written) → Written
+go_on (Fell vars) written next = with_more written.bytes (next vars)
+go_on (Back value) written next = written
+go_on (Fault code) written next = written
+
+-- what statements write over the values of the visible names
+abbrev pub written_from : List CodeStmt → List ℤ → Written
+written_from [] vars = record { bytes = []; end = Fell vars }
+written_from (stmt ∷ stmts) vars = let written = stmt_written stmt vars in go_on written.end written (written_from stmts)
+
+abbrev pub FallsThrough : End → Type 0
+FallsThrough (Fell vars) = Unit {0}
+FallsThrough (Back value) = ⊥
+FallsThrough (Fault code) = ⊥
+
+abbrev pub main_written : CodeBlock → Written
+main_written main = written_from (out-CodeBlock main).stmts []
+
+-- The program whose main has this code writes these bytes, and falls through.
+abbrev pub Writes : CodeBlock → List ℕ → Type 0
+Writes main bytes = ((main_written main).bytes ≡ bytes) × FallsThrough (main_written main).end

@@ -1,5 +1,5 @@
 -- Reading tokens from the front, with one token ahead. Each reader gives what it read with the tokens that are left, or nothing.
-use Rattle.std.specs.Prelude.{◌≡◌, ℕ, zero, suc, pos, List, [], ◌∷◌, ◌++◌, length, map, Option, Some, None, option_and_then, nat_le, Bool, false, ◌||◌, ◌==◌, if◌then◌else◌, Result, Ok, Err}
+use Rattle.std.specs.Prelude.{◌≡◌, ℕ, zero, suc, pos, List, [], ◌∷◌, ◌++◌, length, map, Option, Some, None, option_and_then, nat_le, Bool, false, not, ◌==◌, if◌then◌else◌, Result, Ok, Err}
 use denote.Enum.Bare.{sameb}
 use Rattle.spd_syntax.specs.contracts.token.Word as words
 use Rattle.spd_syntax.specs.contracts.token.Mark as marks
@@ -13,12 +13,15 @@ use Rattle.spd_syntax.specs.declared.tree.Expr.{Expr}
 use Rattle.spd_syntax.specs.declared.tree.Expr.TheVariants as e
 use Rattle.spd_syntax.specs.declared.tree.PrintPart.{PrintPart}
 use Rattle.spd_syntax.specs.declared.tree.PrintPart.TheVariants as p
+use Rattle.spd_syntax.specs.declared.tree.Collect.{Collect}
+use Rattle.spd_syntax.specs.declared.tree.Collect.TheVariants as c
 use Rattle.spd_syntax.specs.declared.tree.StmtKind.TheVariants as s
 use Rattle.spd_syntax.specs.declared.tree.Stmt.{Stmt}
 use Rattle.spd_syntax.specs.declared.tree.ItemKind.TheVariants as i
 use Rattle.spd_syntax.specs.declared.tree.Program.{Program}
 use Rattle.spd_syntax.specs.Tokens.{Symbol, name, number, lit, word, mark, Seen, seen}
 use Rattle.spd_syntax.specs.Grammar.{value_of, greatest_literal, unquoted}
+use Rattle.spd_syntax.specs.Limits.{max_depth}
 use Rattle.spd_top.specs.declared.reading.ReadError.{ReadError}
 use Rattle.spd_top.specs.declared.reading.ReadError.TheVariants as errors
 
@@ -70,6 +73,11 @@ word_at which = symbol_at (is_word which)
 abbrev pub mark_at : Mark → Reader ℕ
 mark_at which = symbol_at (is_mark which)
 
+-- whether the next token passes a test
+abbrev pub next_is : (Symbol → Bool) → List Seen → Bool
+next_is test [] = false
+next_is test (t ∷ r) = test t.0
+
 abbrev pub name_from : Symbol → Reader (List ℕ)
 name_from (name text) r = Some (text, r)
 name_from _ r = None
@@ -110,7 +118,7 @@ expression_at ts = do
   first ← primary_at ts
   terms_at (length first.1) first.0 first.1
 
--- ---- statements
+-- ---- the parts of a print
 
 abbrev pub part_from : Symbol → List Seen → Reader PrintPart
 part_from (lit text) ts r = Some (p.Lit (unquoted text), r)
@@ -129,14 +137,6 @@ next_part_at found ts = do
 abbrev pub parts_at : ℕ → List PrintPart → Reader (List PrintPart)
 parts_at = repeat (is_mark m.Comma) next_part_at
 
-unfoldable pub binding_at : ℕ → Reader Stmt
-binding_at line ts = do
-  called ← name_at ts
-  equals ← mark_at m.Assign called.1
-  value ← expression_at equals.1
-  end ← mark_at m.Semicolon value.1
-  Some (record { line = line; what = s.Let called.0 value.0 }, end.1)
-
 unfoldable pub printing_at : ℕ → Reader Stmt
 printing_at line ts = do
   first ← part_at ts
@@ -144,20 +144,91 @@ printing_at line ts = do
   end ← mark_at m.Semicolon parts.1
   Some (record { line = line; what = s.Print parts.0 }, end.1)
 
-abbrev pub begins_statement : Symbol → Bool
-begins_statement symbol = is_word w.Let symbol || is_word w.Print symbol
+-- ---- statements
 
-unfoldable pub statement_at : Reader Stmt
-statement_at [] = None
-statement_at (t ∷ r) = if is_word w.Let t.0 then binding_at t.1 r else (if is_word w.Print t.0 then printing_at t.1 r else None)
+unfoldable pub binding_at : ℕ → List ℕ → Reader Stmt
+binding_at line called ts = do
+  value ← expression_at ts
+  end ← mark_at m.Semicolon value.1
+  Some (record { line = line; what = s.Let called value.0 }, end.1)
 
-unfoldable pub next_statement_at : List Stmt → Reader (List Stmt)
-next_statement_at found ts = do
-  statement ← statement_at ts
-  Some (found ++ statement.0 ∷ [], statement.1)
+unfoldable pub offering_at : ℕ → Reader Stmt
+offering_at line ts = do
+  value ← expression_at ts
+  end ← mark_at m.Semicolon value.1
+  Some (record { line = line; what = s.Offer value.0 }, end.1)
 
-abbrev pub statements_at : ℕ → List Stmt → Reader (List Stmt)
-statements_at = repeat begins_statement next_statement_at
+abbrev pub collect_from : Symbol → Reader Collect
+collect_from (word w.Sum) r = Some (c.Sum, r)
+collect_from (word w.Least) r = Some (c.Least, r)
+collect_from (word w.Greatest) r = Some (c.Greatest, r)
+collect_from _ r = None
+
+unfoldable pub collect_at : Reader Collect
+collect_at [] = None
+collect_at (t ∷ r) = collect_from t.0 r
+
+-- Statements go on up to a closing brace.
+abbrev pub is_inside : Symbol → Bool
+is_inside symbol = not (is_mark m.RightBrace symbol)
+
+-- Blocks inside of statements are read by a reader of their own, which also gives the line of the closing brace.
+module _ (block : Reader (List Stmt × ℕ)) where
+  unfoldable pub collecting_at : ℕ → List ℕ → Reader Stmt
+  collecting_at line called ts = do
+    finish ← word_at w.Finish ts
+    kind ← collect_at finish.1
+    body ← block kind.1
+    Some (record { line = line; what = s.LetFinish called kind.0 body.0.0 }, body.1)
+
+  unfoldable pub naming_at : ℕ → Reader Stmt
+  naming_at line ts = do
+    called ← name_at ts
+    equals ← mark_at m.Assign called.1
+    if next_is (is_word w.Finish) equals.1 then collecting_at line called.0 equals.1 else binding_at line called.0 equals.1
+
+  unfoldable pub beginning_at : ℕ → Reader Stmt
+  beginning_at line ts = do
+    body ← block ts
+    Some (record { line = line; what = s.Async body.0.0 }, body.1)
+
+  unfoldable pub finishing_at : ℕ → Reader Stmt
+  finishing_at line ts = do
+    body ← block ts
+    Some (record { line = line; what = s.Finish body.0.0 }, body.1)
+
+  abbrev pub statement_from : Symbol → ℕ → Reader Stmt
+  statement_from (word w.Let) line r = naming_at line r
+  statement_from (word w.Async) line r = beginning_at line r
+  statement_from (word w.Finish) line r = finishing_at line r
+  statement_from (word w.Offer) line r = offering_at line r
+  statement_from (word w.Print) line r = printing_at line r
+  statement_from _ line r = None
+
+  unfoldable pub statement_at : Reader Stmt
+  statement_at [] = None
+  statement_at (t ∷ r) = statement_from t.0 t.1 r
+
+  unfoldable pub next_statement_at : List Stmt → Reader (List Stmt)
+  next_statement_at found ts = do
+    statement ← statement_at ts
+    Some (found ++ statement.0 ∷ [], statement.1)
+
+  abbrev pub statements_at : ℕ → List Stmt → Reader (List Stmt)
+  statements_at = repeat is_inside next_statement_at
+
+  -- statements between braces
+  unfoldable pub braced_at : Reader (List Stmt × ℕ)
+  braced_at ts = do
+    open' ← mark_at m.LeftBrace ts
+    body ← statements_at (length open'.1) [] open'.1
+    close ← mark_at m.RightBrace body.1
+    Some ((body.0, close.0), close.1)
+
+-- a block in which at most so many braces are open at once
+unfoldable pub block_at : ℕ → Reader (List Stmt × ℕ)
+block_at zero ts = None
+block_at (suc depth) ts = braced_at (block_at depth) ts
 
 -- ---- programs
 
@@ -165,7 +236,5 @@ statements_at = repeat begins_statement next_statement_at
 unfoldable pub program_at : List Seen → Option Program
 program_at ts = do
   main ← word_at w.Main ts
-  open' ← mark_at m.LeftBrace main.1
-  body ← statements_at (length open'.1) [] open'.1
-  close ← mark_at m.RightBrace body.1
-  if length close.1 == 0 then Some (record { items = record { line = main.0; what = i.Main body.0 } ∷ [] }) else None
+  body ← block_at max_depth main.1
+  if length body.1 == 0 then Some (record { items = record { line = main.0; what = i.Main body.0.0 } ∷ []; last_line = body.0.1 }) else None

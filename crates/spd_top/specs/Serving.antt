@@ -5,8 +5,9 @@ use Rattle.spd_io.specs.Shelf.{FileTold, Missing, MayBe, MayExceed, ShelfState, 
 use Rattle.spd_io.specs.Sink.{SinkState, Gets, GetsFront, Failed}
 use Rattle.spd_syntax.specs.declared.tree.Program.{Program}
 use Rattle.spd_syntax.specs.Limits.{max_text}
+use Rattle.spd_check.specs.declared.code.CodeBlock.{CodeBlock}
 use Rattle.spd_top.specs.Meaning.{Writes}
-use Rattle.spd_top.specs.Built.{IsBuilt}
+use Rattle.spd_top.specs.Built.{IsBuilt, HasCode}
 
 abbrev pub Bytes : Type 0
 Bytes = List ℕ
@@ -51,7 +52,7 @@ pub data Outcome (words : List Bytes) (file : Bytes → FileTold) : ℕ → Byte
   too_long : (name : Bytes) → operand_of words ≡ Some name → MayExceed (file name) max_text → Outcome words file 1 [] (of_file name (codes "TooLong"))
   not_built : (name text : Bytes) → operand_of words ≡ Some name → MayBe (file name) text → length text ≤ max_text → ((program : Program) → IsBuilt text program → ⊥)
       → Outcome words file 1 [] (of_file name (codes "NotBuilt"))
-  done : (name text : Bytes) (program : Program) (bytes : Bytes) → operand_of words ≡ Some name → MayBe (file name) text → length text ≤ max_text → IsBuilt text program → Writes program bytes
+  done : (name text : Bytes) (main : CodeBlock) (bytes : Bytes) → operand_of words ≡ Some name → MayBe (file name) text → length text ≤ max_text → HasCode text main → Writes main bytes
       → Outcome words file 0 bytes []
 
 -- ---- the answer
@@ -72,11 +73,11 @@ Says status old new line result = ((result ≡ status) × Gets old new line) ⊎
 abbrev pub WantsMemory : SinkState → SinkState → ℕ → Type 0
 WantsMemory old new result = (result ≡ 7) × GetsOrFails old new out_of_memory
 
--- What a run of a program wrote, and its status.
-pub data Runs (program : Program) (out out' err err' : SinkState) : ℕ → Type 0 where
-  ran : (bytes : Bytes) → Writes program bytes → Gets out out' bytes → Gets err err' [] → Runs program out out' err err' 0
-  out_stopped : (bytes : Bytes) → Writes program bytes → FailsIn out out' bytes → GetsOrFails err err' write_failed → Runs program out out' err err' 5
-  memory_stopped : (bytes : Bytes) → Writes program bytes → GetsFront out out' bytes → GetsOrFails err err' out_of_memory → Runs program out out' err err' 7
+-- What a run of a program wrote, by the code of its main, and its status.
+pub data Runs (main : CodeBlock) (out out' err err' : SinkState) : ℕ → Type 0 where
+  ran : (bytes : Bytes) → Writes main bytes → Gets out out' bytes → Gets err err' [] → Runs main out out' err err' 0
+  out_stopped : (bytes : Bytes) → Writes main bytes → FailsIn out out' bytes → GetsOrFails err err' write_failed → Runs main out out' err err' 5
+  memory_stopped : (bytes : Bytes) → Writes main bytes → GetsFront out out' bytes → GetsOrFails err err' out_of_memory → Runs main out out' err err' 7
 
 -- What was answered, by what shelf, `out` and `err` were before and after.
 pub data Answer (words : List Bytes) (shelf shelf' : ShelfState) (out out' err err' : SinkState) : ℕ → Type 0 where

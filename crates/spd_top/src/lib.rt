@@ -2,18 +2,23 @@
 #![tactic(auto)]
 
 mod building;
-mod checks;
+mod expressions;
 mod limits;
+mod printing;
 mod reading;
 mod running;
 mod serving;
+mod statements;
 mod status;
 mod telling;
+mod tokens;
 mod words;
 
 pub use serving::serve_still;
 pub use telling::{out_of_memory, refuse_words};
 pub use words::Words;
 
+#[cfg(test)]
+mod finish_tests;
 #[cfg(test)]
 mod tests;

@@ -1,16 +1,22 @@
 ghost use Rattle.std.specs.Prelude.{◌≡◌, ◌≤◌, ◌↔◌, ℕ, List, IsTrue, IfSome};
 ghost use Rattle.spd_syntax.specs.Tokens.{seen};
-ghost use Rattle.spd_syntax.specs.Limits.{KeepsOperators, is_operator_mark, ends_stretch_mark};
+ghost use Rattle.spd_syntax.specs.Limits.{KeepsOperators, KeepsNames, is_operator_mark, ends_stretch_mark, is_let};
 ghost use Rattle.spd_top.specs.Reading.{all_seen};
 ghost use Rattle.spd_top.specs.Operators.{operators_after};
 
-use spd_syntax::{Mark, Token, TokenKind};
+use spd_syntax::{Mark, Token, TokenKind, Word};
 
 /// The greatest number of bytes of a program's text.
 pub(crate) const MAX_TEXT: usize = 1_048_576;
 
 /// The greatest number of operators among tokens with no `;`, `{` or `}` between them.
 const MAX_OPERATORS: u32 = 1000;
+
+/// The greatest number of braces that are open at once.
+pub(crate) const MAX_DEPTH: u32 = 32;
+
+/// The greatest number of names that a program binds.
+const MAX_NAMES: usize = 64;
 
 fn is_operator(mark: Mark) -> bool
     ensures { result ≡ is_operator_mark mark }
@@ -74,4 +80,23 @@ pub(crate) fn keeps_operators(tokens: &[Token]) -> bool
         operators = after;
     }
     true
+}
+
+fn is_let(token: &Token) -> bool
+    ensures { (text : List ℕ) → result ≡ is_let (seen text token.now).0 }
+{
+    matches!(token.kind, TokenKind::Word(Word::Let))
+}
+
+/// Whether no more than 64 names are bound.
+pub(crate) fn keeps_names(tokens: &[Token]) -> bool
+    ensures { (text : List ℕ) → IsTrue result ↔ KeepsNames (all_seen text tokens.now) }
+{
+    let mut names: usize = 0;
+    for token in tokens {
+        if is_let(token) {
+            names += 1;
+        }
+    }
+    names <= MAX_NAMES
 }

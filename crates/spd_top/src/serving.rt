@@ -1,34 +1,32 @@
-ghost use Rattle.std.specs.Prelude.{◌≡◌, ◌⊎◌, ℕ, List, [], Some, None, IsSome};
+ghost use Rattle.std.specs.Prelude.{◌≡◌, ◌⊎◌, ℕ, List, [], Some};
 ghost use Rattle.spd_io.specs.Shelf.{FailedAt, ChangesNoOther};
 ghost use Rattle.spd_io.specs.Sink.{Failed};
-ghost use Rattle.spd_top.specs.Checks.{check_from};
-ghost use Rattle.spd_top.specs.Meaning.{body_of};
 ghost use Rattle.spd_top.specs.Serving.{operand_of, words_refused, Says, Answer, Runs};
 
-use crate::building::{body_of, build};
+use crate::building::build;
 use crate::limits::MAX_TEXT;
 use crate::reading::ReadError;
 use crate::running::{RunError, run};
 use crate::status;
 use crate::telling::{fail_read, out_of_memory, refuse_program, refuse_words, tell};
 use crate::words::Words;
+use spd_check::Code;
+use spd_elide::ElideRegions;
 use spd_io::{Shelf, ShelfFault, Sink};
-use spd_syntax::Program;
 use std::alloc::Global;
 
 /// Runs a program, and answers the status.
-fn run_program<O: Sink, E: Sink>(alloc: Global, program: &Program, out: &mut O, err: &mut E) -> u8
-    requires { IsSome (check_from [] (body_of program.now)) }
-    ensures { Runs program.now (O.state out.old) (O.state out.new) (E.state err.old) (E.state err.new) result }
+fn run_program<O: Sink, E: Sink>(alloc: Global, code: &Code, out: &mut O, err: &mut E) -> u8
+    ensures { Runs code.now (O.state out.old) (O.state out.new) (E.state err.old) (E.state err.new) result }
 {
-    match run(alloc, body_of(program), out) {
+    let mut regions = ElideRegions::new(code);
+    match run(alloc, code, &mut regions, out) {
         Ok(()) => status::DONE,
         Err(RunError::WriteFailed) => {
             tell(err, b"spd: write failed\n");
             status::WRITE_FAILED
         }
         Err(RunError::NoMemory) => out_of_memory(err),
-        Err(RunError::Unbound) => unreachable!(),
     }
 }
 
@@ -64,7 +62,7 @@ pub fn serve_still<F: Shelf, O: Sink, E: Sink>(
         Err(ShelfFault::NoMemory) => return out_of_memory(err),
     };
     match build(alloc, &text) {
-        Ok(program) => run_program(alloc, &program, out, err),
+        Ok(code) => run_program(alloc, &code, out, err),
         Err(ReadError::NotBuilt) => refuse_program(alloc, err, name, "NotBuilt"),
         Err(ReadError::NoMemory) => out_of_memory(err),
     }

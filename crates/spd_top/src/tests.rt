@@ -5,9 +5,9 @@ use std::process::Abort;
 use std::test::Fail;
 
 /// The bytes that out and err get, and the status.
-type Answer = (&'static [u8], &'static [u8], u8);
+pub(crate) type Answer = (&'static [u8], &'static [u8], u8);
 
-const NOT_BUILT: Answer = (b"", b"spd: a.sp: NotBuilt\n", 1);
+pub(crate) const NOT_BUILT: Answer = (b"", b"spd: a.sp: NotBuilt\n", 1);
 
 const WORDS_REFUSED: Answer = (b"", b"spd: words refused\n", 2);
 
@@ -20,7 +20,7 @@ type CommandRow = (&'static [&'static str], u32, u32, Answer);
 /// The text before each sum of ones, the operators of the sums, and what is answered.
 type SumRow = (&'static str, &'static [u32], Answer);
 
-static PROGRAMS: [ProgramRow; 20] = [
+static PROGRAMS: [ProgramRow; 22] = [
     (b"main { }", 0, 0, (b"", b"", 0)),
     (b"main { print \"n=\", 1+2; }", 0, 0, (b"n=3\n", b"", 0)),
     (b"main { print 7, 8; print 9; }", 0, 0, (b"78\n9\n", b"", 0)),
@@ -96,6 +96,9 @@ static PROGRAMS: [ProgramRow; 20] = [
     (b"main { print 1; print y; }", 0, 0, NOT_BUILT),
     (b"main { print y; }", 1, 0, NOT_BUILT),
     (b"main { print y; }", 0, 1, (b"", b"", 5)),
+    // A line is one call of err.
+    (b"main { print y; }", 0, 2, NOT_BUILT),
+    (b"main { print 1; }", 1, 2, (b"", b"spd: write failed\n", 5)),
 ];
 
 /// Texts that are not built.
@@ -165,7 +168,7 @@ static SUMS: [SumRow; 5] = [
 /// How many names a program binds, and what is answered.
 static NAMES: [(u32, Answer); 2] = [(64, (b"63\n", b"", 0)), (65, NOT_BUILT)];
 
-static COMMANDS: [CommandRow; 22] = [
+static COMMANDS: [CommandRow; 25] = [
     (&["elide", "help"], 0, 0, (b"7\n", b"", 0)),
     (&["elide", "help"], 2, 0, (b"7\n", b"", 0)),
     (
@@ -182,6 +185,12 @@ static COMMANDS: [CommandRow; 22] = [
         (b"", b"spd: none.sp: read failed\n", 4),
     ),
     (&["elide", "none.sp"], 0, 1, (b"", b"", 4)),
+    (
+        &["elide", "none.sp"],
+        0,
+        2,
+        (b"", b"spd: none.sp: read failed\n", 4),
+    ),
     (&["elide", "most.sp"], 0, 0, (b"8\n", b"", 0)),
     (
         &["elide", "more.sp"],
@@ -190,8 +199,15 @@ static COMMANDS: [CommandRow; 22] = [
         (b"", b"spd: more.sp: TooLong\n", 1),
     ),
     (&["elide", "more.sp"], 0, 1, (b"", b"", 5)),
+    (
+        &["elide", "more.sp"],
+        0,
+        2,
+        (b"", b"spd: more.sp: TooLong\n", 1),
+    ),
     (&[], 0, 0, WORDS_REFUSED),
     (&[], 0, 1, (b"", b"", 5)),
+    (&[], 0, 2, WORDS_REFUSED),
     (&["elide"], 0, 0, WORDS_REFUSED),
     (&["help"], 0, 0, WORDS_REFUSED),
     (&["fly", "help"], 0, 0, WORDS_REFUSED),
@@ -240,7 +256,7 @@ fn expect(
 }
 
 /// Asserts what is answered to `elide` of a program where these calls of out and err are to fail.
-fn expect_of(
+pub(crate) fn expect_of(
     rt: &(impl Abort + AllocGlobal),
     text: &[u8],
     calls: (u32, u32),
@@ -297,7 +313,7 @@ fn expect_programs(rt: &(impl Abort + AllocGlobal), rows: &[ProgramRow]) -> Resu
     Ok(())
 }
 
-fn expect_not_built(
+pub(crate) fn expect_not_built(
     rt: &(impl Abort + AllocGlobal),
     texts: &[&'static [u8]],
 ) -> Result<(), AllocError> {

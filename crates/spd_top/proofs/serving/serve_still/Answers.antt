@@ -23,8 +23,8 @@ returns-in-Err-NoMemory-clause-answer g c =
 pub returns-in-Ok-build-clause-answer : goal.returns-in-Ok-build-clause-answer
 returns-in-Ok-build-clause-answer g c =
     let found = rw c.deref.ensures.value at c.in-Ok-build.ensures in
-    has_run c.args.words.now (g.F.Shelf.state c.args.shelf.now) (g.F.Shelf.state c.read.new.self) c.in-Ok-build.program (g.O.Sink.state c.args.out.now) (g.O.Sink.state c.run_program.new.out) (g.E.Sink.state c.args.err.now) (g.E.Sink.state c.run_program.new.err) c.run_program.result
-    (λ bytes writes. done c.in-Some.name.now c.in-Ok.text.items c.in-Ok-build.program bytes c.in-Some.ensures c.in-Ok.ensures.whole c.in-Ok.ensures.within found.built writes) c.run_program.ensures
+    has_run c.args.words.now (g.F.Shelf.state c.args.shelf.now) (g.F.Shelf.state c.read.new.self) c.in-Ok-build.code (g.O.Sink.state c.args.out.now) (g.O.Sink.state c.run_program.new.out) (g.E.Sink.state c.args.err.now) (g.E.Sink.state c.run_program.new.err) c.run_program.result
+    (λ bytes writes. done c.in-Some.name.now c.in-Ok.text.items c.in-Ok-build.code bytes c.in-Some.ensures c.in-Ok.ensures.whole c.in-Ok.ensures.within found.built writes) c.run_program.ensures
 
 pub returns-in-Err-NotBuilt-clause-answer : goal.returns-in-Err-NotBuilt-clause-answer
 returns-in-Err-NotBuilt-clause-answer g c =

@@ -1,0 +1,117 @@
+-- The checks of a program. All its faults stand in the order of the text, and the first is told.
+use Rattle.std.specs.Prelude.{◌≡◌, ◌≢◌, ℕ, Bool, true, false, if◌then◌else◌, List, [], ◌∷◌, ◌++◌, map, flat_map, Option, None, Some, Result, Ok, Err}
+use Rattle.spd_syntax.specs.declared.tree.Expr.{Expr, fold-Expr}
+use Rattle.spd_syntax.specs.declared.tree.Expr.TheOpen.{Expr-F}
+use Rattle.spd_syntax.specs.declared.tree.PrintPart.{PrintPart}
+use Rattle.spd_syntax.specs.declared.tree.PrintPart.TheVariants as p
+use Rattle.spd_syntax.specs.declared.tree.StmtKind.{StmtKind, fold-StmtKind}
+use Rattle.spd_syntax.specs.declared.tree.StmtKind.TheOpen as s
+use Rattle.spd_syntax.specs.declared.tree.Stmt.{Stmt, fold-Stmt}
+use Rattle.spd_syntax.specs.declared.tree.ItemKind.TheVariants as i
+use Rattle.spd_syntax.specs.declared.tree.Item.{Item}
+use Rattle.spd_syntax.specs.declared.tree.Program.{Program}
+use Rattle.spd_check.specs.declared.faults.CheckKind.{CheckKind}
+use Rattle.spd_check.specs.declared.faults.CheckKind.TheVariants.{Unknown, Twice, AsyncOutside, OfferOutside, PrintPlace, NoMain, NoMemory}
+use Rattle.spd_check.specs.declared.faults.CheckFault.{CheckFault}
+use Rattle.spd_check.specs.Names.{Names, is_visible, binds}
+
+abbrev pub Faults : Type 0
+Faults = List CheckFault
+
+abbrev pub fault_where : Bool → ℕ → CheckKind → Faults
+fault_where true line kind = record { line = line; kind = kind } ∷ []
+fault_where false line kind = []
+
+-- ---- expressions: each name is visible
+
+abbrev pub expression_step : Names → ℕ → Expr-F Faults → Faults
+expression_step names line (Expr-F.Number n) = []
+expression_step names line (Expr-F.Var name) = fault_where (if is_visible names name then false else true) line Unknown
+expression_step names line (Expr-F.Binary op left right) = left ++ right
+
+abbrev pub expression_faults : Names → ℕ → Expr → Faults
+expression_faults names line = fold-Expr Faults (expression_step names line)
+
+abbrev pub part_faults : Names → ℕ → PrintPart → Faults
+part_faults names line (p.Lit text) = []
+part_faults names line (p.Value value) = expression_faults names line value
+
+-- ---- statements
+
+-- the names that a statement binds, and its faults where these names are visible, inside a finish or async block or not
+abbrev pub Checked : Type 0
+Checked = Names × (Names → Bool → Faults)
+
+-- the same of what a statement at a line does
+abbrev pub CheckedKind : Type 0
+CheckedKind = Names × (ℕ → Names → Bool → Faults)
+
+abbrev pub statements_faults : List Checked → Names → Bool → Faults
+statements_faults [] names inside = []
+statements_faults (s ∷ ss) names inside = s.1 names inside ++ statements_faults ss (names ++ s.0) inside
+
+-- a finish or an async block
+abbrev pub block_faults : List Checked → Names → Faults
+block_faults body names = statements_faults body names true
+
+abbrev pub twice : Names → List ℕ → ℕ → Faults
+twice names name line = fault_where (is_visible names name) line Twice
+
+-- It stands in no finish or async block.
+abbrev pub outside : Bool → ℕ → CheckKind → Faults
+outside true line kind = []
+outside false line kind = record { line = line; kind = kind } ∷ []
+
+-- its place first, then its expressions, then its block, then the name that it binds
+abbrev pub kind_faults : s.StmtKind-F CheckedKind Checked → ℕ → Names → Bool → Faults
+kind_faults (s.Let name value) line names inside = expression_faults names line value ++ twice names name line
+kind_faults (s.LetFinish name kind body) line names inside = block_faults body names ++ twice names name line
+kind_faults (s.Async body) line names inside = outside inside line AsyncOutside ++ block_faults body names
+kind_faults (s.Finish body) line names inside = block_faults body names
+kind_faults (s.Offer value) line names inside = outside inside line OfferOutside ++ expression_faults names line value
+kind_faults (s.Print parts) line names inside = fault_where inside line PrintPlace ++ flat_map (part_faults names line) parts
+
+abbrev pub kind_step : s.StmtKind-F CheckedKind Checked → CheckedKind
+kind_step kind = (binds kind, kind_faults kind)
+
+abbrev pub line_step : s.Stmt-F CheckedKind Checked → Checked
+line_step s = (s.what.0, s.what.1 s.line)
+
+abbrev pub statement_checked : Stmt → Checked
+statement_checked = fold-Stmt CheckedKind Checked kind_step line_step
+
+abbrev pub kind_checked : StmtKind → CheckedKind
+kind_checked = fold-StmtKind CheckedKind Checked kind_step line_step
+
+-- the faults of statements where these names are visible, inside a finish or async block or not
+unfoldable pub faults_from : Names → Bool → List Stmt → Faults
+faults_from names inside stmts = statements_faults (map statement_checked stmts) names inside
+
+-- ---- programs
+
+-- a second main, and each one after it
+abbrev pub twice_main : List Item → Faults
+twice_main [] = []
+twice_main (first ∷ others) = map (λ item. record { line = item.line; kind = Twice }) others
+
+abbrev pub no_main : List Item → ℕ → Faults
+no_main [] last_line = record { line = last_line; kind = NoMain } ∷ []
+no_main (first ∷ others) last_line = []
+
+abbrev pub item_faults : i.the_data → Faults
+item_faults (i.Main body) = faults_from [] false body
+
+-- the faults of a program: those of its items' names, then a missing main, then those in the items
+abbrev pub faults_of : Program → Faults
+faults_of program = twice_main program.items ++ no_main program.items program.last_line ++ flat_map (λ item. item_faults item.what) program.items
+
+-- ---- what is answered
+
+abbrev pub first : Faults → Option CheckFault
+first [] = None
+first (fault ∷ faults) = Some fault
+
+-- There are no faults and the answer is what is given, or it is the first of the faults, unless memory ran out.
+abbrev pub Answers : {A : Type 0} → Result A CheckFault → Faults → A → Type 0
+Answers (Ok found) faults given = (faults ≡ []) × (found ≡ given)
+Answers (Err fault) faults given = fault.kind ≢ NoMemory → first faults ≡ Some fault

@@ -1,0 +1,131 @@
+ghost use Rattle.std.specs.Prelude.{◌≡◌, ◌++◌, ◌∷◌, [], length, map, flat_map, OnOk, if◌then◌else◌, true, false};
+ghost use Rattle.spd_check.specs.declared.faults.CheckKind.TheVariants.{Unknown, OfferOutside, PrintPlace};
+ghost use Rattle.spd_check.specs.declared.code.CodeExpr.TheVariants.{Var};
+ghost use Rattle.spd_check.specs.declared.code.CodeStmtKind.TheVariants.{Let, Offer, Print};
+ghost use Rattle.spd_check.specs.Names.{seen, is_visible, place_of};
+ghost use Rattle.spd_check.specs.Checks.{Answers, expression_faults, part_faults, twice, outside, fault_where};
+ghost use Rattle.spd_check.specs.Resolved.{expression_code, part_code};
+
+use crate::code::{CodeExpr, CodeParts, CodePrintPart, CodeStmtKind};
+use crate::faults::{CheckFault, CheckKind};
+use crate::names::{bind, find, to_u32};
+use spd_list::Seq;
+use spd_syntax::{Expr, Parts, PrintPart};
+use sqlite_items::Boxed;
+use std::alloc::Global;
+
+/// The code of a name in an expression.
+fn check_name(names: &[&[u8]], line: u32, name: &[u8]) -> Result<CodeExpr, CheckFault>
+    ensures { Answers result (fault_where (if is_visible (seen names.now) name.now then false else true) line Unknown) (Var (place_of (seen names.now) name.now)) }
+{
+    let Some(place) = find(names, name) else {
+        return Err(CheckFault {
+            line,
+            kind: CheckKind::Unknown,
+        });
+    };
+    Ok(CodeExpr::Var(to_u32(place)?))
+}
+
+/// Checks an expression of a statement at a line, where these names are visible.
+fn check_expr(
+    alloc: Global,
+    names: &[&[u8]],
+    line: u32,
+    expr: &Expr,
+) -> Result<CodeExpr, CheckFault>
+    ensures { Answers result (expression_faults (seen names.now) line expr.now) (expression_code (seen names.now) expr.now) }
+{
+    match expr {
+        Expr::Number(number) => Ok(CodeExpr::Number(*number)),
+        Expr::Var(name) => check_name(names, line, name.as_slice()),
+        Expr::Binary(op, left, right) => {
+            let left = check_expr(alloc, names, line, left.get())?;
+            let right = check_expr(alloc, names, line, right.get())?;
+            Ok(CodeExpr::Binary(*op, Boxed::new(alloc, left)?, Boxed::new(alloc, right)?))
+        }
+    }
+}
+
+fn check_part(
+    alloc: Global,
+    names: &[&[u8]],
+    line: u32,
+    part: &PrintPart,
+) -> Result<CodePrintPart, CheckFault>
+    ensures { Answers result (part_faults (seen names.now) line part.now) (part_code (seen names.now) part.now) }
+{
+    match part {
+        PrintPart::Lit(text) => Ok(CodePrintPart::Lit(Seq::from_slice(alloc, text.as_slice())?)),
+        PrintPart::Value(value) => Ok(CodePrintPart::Value(check_expr(alloc, names, line, value)?)),
+    }
+}
+
+fn check_parts(
+    alloc: Global,
+    names: &[&[u8]],
+    line: u32,
+    parts: &Parts,
+) -> Result<CodeParts, CheckFault>
+    ensures { Answers result (flat_map (part_faults (seen names.now) line) parts.now) (map (part_code (seen names.now)) parts.now) }
+{
+    let mut checked = Seq::new(alloc);
+    for part in parts.as_slice() {
+        checked.push(check_part(alloc, names, line, part)?)?;
+    }
+    Ok(checked)
+}
+
+/// Checks a `let` of a value, and makes its name visible.
+pub(crate) fn check_let<'a>(
+    alloc: Global,
+    names: &mut Vec<&'a [u8]>,
+    line: u32,
+    name: &'a [u8],
+    value: &Expr,
+) -> Result<CodeStmtKind, CheckFault>
+    ensures answer { Answers result (expression_faults (seen names.old.items) line value.now ++ twice (seen names.old.items) name.now line) (Let (length (seen names.old.items)) (expression_code (seen names.old.items) value.now)) }
+    ensures names { OnOk result (seen names.new.items ≡ seen names.old.items ++ name.now ∷ []) }
+{
+    let value = check_expr(alloc, names, line, value)?;
+    let name = bind(names, name, line)?;
+    Ok(CodeStmtKind::Let { name, value })
+}
+
+pub(crate) fn check_offer(
+    alloc: Global,
+    names: &[&[u8]],
+    inside: bool,
+    line: u32,
+    value: &Expr,
+) -> Result<CodeStmtKind, CheckFault>
+    ensures { Answers result (outside inside line OfferOutside ++ expression_faults (seen names.now) line value.now) (Offer (expression_code (seen names.now) value.now)) }
+{
+    if !inside {
+        return Err(CheckFault {
+            line,
+            kind: CheckKind::OfferOutside,
+        });
+    }
+    let value = check_expr(alloc, names, line, value)?;
+    Ok(CodeStmtKind::Offer { value })
+}
+
+pub(crate) fn check_print(
+    alloc: Global,
+    names: &[&[u8]],
+    inside: bool,
+    line: u32,
+    parts: &Parts,
+) -> Result<CodeStmtKind, CheckFault>
+    ensures { Answers result (fault_where inside line PrintPlace ++ flat_map (part_faults (seen names.now) line) parts.now) (Print (map (part_code (seen names.now)) parts.now)) }
+{
+    if inside {
+        return Err(CheckFault {
+            line,
+            kind: CheckKind::PrintPlace,
+        });
+    }
+    let parts = check_parts(alloc, names, line, parts)?;
+    Ok(CodeStmtKind::Print { parts })
+}
