@@ -1,0 +1,18 @@
+use Rattle.std.proofs.Common.{[], ◌∷◌}
+use Rattle.std.proofs.lemmas.List.{map-append, reverse-append}
+use Rattle.spd_task.specs.Plain.{told}
+use Rattle.spd_task.proofs.Plays.{meets_finish}
+use Rattle.spd_task.proofs.plain.Dag.open.Goals as goal
+
+pub returns : goal.returns
+returns g c =
+    let view = g.B.Body.view in
+    let now = c.args.self.now in
+    rw (
+      c.in_ok-push-2.ensures.items,
+      map-append view now.ready.items (c.args.child ∷ []),
+      c.new-self.ensures,
+      c.in_ok-push.ensures.items,
+      reverse-append now.outside.items (record { finish = now.innermost; waiting = c.args.rest } ∷ []),
+    )
+    (meets_finish (told view now) (view c.args.rest) (view c.args.child) c.args.kind)
