@@ -22,3 +22,5 @@ pub use words::Words;
 mod finish_tests;
 #[cfg(test)]
 mod tests;
+#[cfg(test)]
+mod ways_tests;

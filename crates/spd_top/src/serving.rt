@@ -11,15 +11,15 @@ use crate::status;
 use crate::telling::{fail_read, out_of_memory, refuse_program, refuse_words, tell};
 use crate::words::Words;
 use spd_check::Code;
-use spd_elide::ElideRegions;
 use spd_io::{Shelf, ShelfFault, Sink};
+use spd_task::PlainRegions;
 use std::alloc::Global;
 
 /// Runs a program, and answers the status.
 fn run_program<O: Sink, E: Sink>(alloc: Global, code: &Code, out: &mut O, err: &mut E) -> u8
     ensures { Runs code.now (O.state out.old) (O.state out.new) (E.state err.old) (E.state err.new) result }
 {
-    let mut regions = ElideRegions::new(code);
+    let mut regions = PlainRegions::new(code);
     match run(alloc, code, &mut regions, out) {
         Ok(()) => status::DONE,
         Err(RunError::WriteFailed) => {
