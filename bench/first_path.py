@@ -8,24 +8,12 @@ What it prints is a measurement of one run, and no promise.
 """
 
 import os
-import resource
-import statistics
-import subprocess
 import sys
 import tempfile
-import time
+
+from measuring import peak_kib, program_path, seconds, smallest_stack_kib, text_file
 
 PRINT = b'print "row ", 1 + 2 + x;\n'
-
-
-def seconds(command, runs):
-    """The median wall time of a command, in seconds."""
-    times = []
-    for _ in range(runs):
-        start = time.perf_counter()
-        subprocess.run(command, stdout=subprocess.DEVNULL, check=True)
-        times.append(time.perf_counter() - start)
-    return statistics.median(times)
 
 
 def prints(size):
@@ -34,48 +22,13 @@ def prints(size):
     return head + PRINT * ((size - len(head) - 2) // len(PRINT)) + b"}\n"
 
 
-def peak_kib(command):
-    """The peak resident memory of a command, in KiB, by Debian's package `time`."""
-    timed = ["/usr/bin/time", "-f", "%M", *command]
-    done = subprocess.run(timed, stdout=subprocess.DEVNULL, stderr=subprocess.PIPE, text=True, check=True)
-    return int(done.stderr.split()[-1])
-
-
-def smallest_stack_kib(command):
-    """The smallest limit on the stack, in steps of 4 KiB, under which a command ends with status 0."""
-
-    def runs(kib):
-        def limit():
-            resource.setrlimit(resource.RLIMIT_STACK, (kib * 1024, kib * 1024))
-
-        done = subprocess.run(
-            command, stdout=subprocess.DEVNULL, stderr=subprocess.DEVNULL, preexec_fn=limit
-        )
-        return done.returncode == 0
-
-    low, high = 0, 8192
-    if not runs(high):
-        return None
-    while high - low > 4:
-        middle = (low + high) // 2 // 4 * 4
-        if middle in (low, high):
-            break
-        if runs(middle):
-            high = middle
-        else:
-            low = middle
-    return high
-
-
 def main():
-    spd = os.path.abspath(sys.argv[1] if len(sys.argv) > 1 else "crates/spd/out/spd")
+    spd = program_path()
     with tempfile.TemporaryDirectory() as folder:
         os.chdir(folder)
 
         def program(name, text):
-            with open(name, "wb") as file:
-                file.write(text)
-            return [spd, "elide", name]
+            return [spd, "elide", text_file(name, text)]
 
         empty = program("empty.sp", b"main { }")
         start = seconds(empty, 51)
