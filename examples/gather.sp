@@ -1,4 +1,4 @@
-# Three finishes over the same offers.
+# Three finishes, and what each gathers.
 main {
   let tea = 3;
   let all = finish sum {
