@@ -2,8 +2,8 @@
 use Rattle.std.proofs.Common.{◌≡◌, ℕ, List, [], ◌∷◌, ◌++◌, refl, sym, ◌∙◌, ap, subst, ℤ, Bool, true, false, Result, Ok}
 use Rattle.std.specs.Prelude.{map}
 use Rattle.spd_words.specs.Gift.{no_fault, gift}
-use Rattle.spd_words.specs.declared.kinds.FinishKind.{FinishKind}
-use Rattle.spd_words.specs.declared.kinds.FinishKind.TheVariants as kind
+use Rattle.spd_words.specs.declared.finish_kind.FinishKind.{FinishKind}
+use Rattle.spd_words.specs.declared.finish_kind.FinishKind.TheVariants as kind
 use Rattle.spd_syntax.specs.declared.tree.BinOp.{BinOp}
 use Rattle.spd_syntax.specs.declared.tree.BinOp.TheVariants.{Add}
 use Rattle.spd_check.specs.declared.code.CodeExpr.{CodeExpr}
@@ -18,7 +18,7 @@ use Rattle.spd_check.specs.declared.code.CodeBlock.{CodeBlock}
 use Rattle.spd_check.specs.declared.code.CodeBlock as B
 use Rattle.spd_check.specs.declared.code.CodeStmt.{CodeStmt}
 use Rattle.spd_check.specs.declared.code.CodeStmt as S
-use Rattle.spd_elide.specs.Eval.{Fell, Eval, Run, Act, Value, Calls, quiet, then_do, counted, moved, run, fault_of, async_of, bound, whole_finish, with_value, with_result, apply, value, part_fault, printed, collecting, expr_step, kind_step, block_step, stmt_step, eval_block, eval_stmt, eval_kind}
+use Rattle.spd_elide.specs.Eval.{Fell, Eval, Run, Act, Value, CallMeaning, quiet, then_do, counted, moved, run, fault_of, async_of, bound, whole_finish, with_value, with_result, apply, value, part_fault, printed, collecting, expr_step, eval_kind_step, block_step, stmt_step, eval_block, eval_stmt, eval_kind}
 
 -- ---- expressions
 
@@ -82,14 +82,14 @@ pub no_fault_in : (a : Eval) → Faultless a → fault_of a ≡ no_fault
 no_fault_in a h = rw (h.codes, h.end) refl
 
 -- how a finish ends whose block is faultless
-pub finish_end : (kind : FinishKind) (binds : Bool) (vars : List ℤ) (a : Eval) → Faultless a → (whole_finish kind binds vars a).end ≡ Fell (bound binds vars (gift kind a.offers))
-finish_end kind binds vars a h = rw (no_fault_in a h) refl
+pub finish_falls : (kind : FinishKind) (line : ℕ) (binds : Bool) (vars : List ℤ) (a : Eval) → Faultless a → (whole_finish kind line binds vars a).end ≡ Fell (bound binds vars (gift kind a.offers))
+finish_falls kind line binds vars a h = rw (no_fault_in a h) refl
 
 faultless_async : (vars : List ℤ) (a : Eval) → Faultless a → Faultless (async_of vars a)
 faultless_async vars a h = record { codes = rw (h.codes, h.end) refl; vars = vars; end = refl }
 
-faultless_finish : (kind : FinishKind) (binds : Bool) (vars : List ℤ) (a : Eval) → Faultless a → Faultless (whole_finish kind binds vars a)
-faultless_finish kind binds vars a h = record { codes = refl; vars = bound binds vars (gift kind a.offers); end = finish_end kind binds vars a h }
+faultless_finish : (kind : FinishKind) (line : ℕ) (binds : Bool) (vars : List ℤ) (a : Eval) → Faultless a → Faultless (whole_finish kind line binds vars a)
+faultless_finish kind line binds vars a h = record { codes = refl; vars = bound binds vars (gift kind a.offers); end = finish_falls kind line binds vars a h }
 
 part_has : (p : CodePrintPart) (vars : List ℤ) (line : ℕ) → HasValue (part_fault p vars line)
 part_has (part.Lit text) vars line = (_, refl)
@@ -108,18 +108,18 @@ map_map : {A B C : Type 0} (f : A → B) (g : B → C) (xs : List A) → map g (
 map_map f g [] = refl
 map_map f g (x ∷ xs) = ap (λ r. g (f x) ∷ r) (map_map f g xs)
 
-module _ (calls : Calls) where
-  rolled : (z : F.CodeStmtKind-F CodeStmtKind CodeBlock CodeStmt) → eval_kind calls (K.roll-CodeStmtKind z) ≡ kind_step calls (K.map-CodeStmtKind CodeStmtKind CodeBlock CodeStmt Act Run Run (eval_kind calls) (eval_block calls) (eval_stmt calls) z)
+module _ (calls : CallMeaning) where
+  rolled : (z : F.CodeStmtKind-F CodeStmtKind CodeBlock CodeStmt) → eval_kind calls (K.roll-CodeStmtKind z) ≡ eval_kind_step calls (K.map-CodeStmtKind CodeStmtKind CodeBlock CodeStmt Act Run Run (eval_kind calls) (eval_block calls) (eval_stmt calls) z)
   unfolding eval_kind eval_block eval_stmt
-  rolled z = K.fold-roll-CodeStmtKind Act Run Run (kind_step calls) block_step stmt_step z
+  rolled z = K.fold-roll-CodeStmtKind Act Run Run (eval_kind_step calls) block_step stmt_step z
 
   rolled_block : (z : F.CodeBlock-F CodeStmtKind CodeBlock CodeStmt) → eval_block calls (B.roll-CodeBlock z) ≡ run (map (eval_stmt calls) z.stmts)
   unfolding eval_kind eval_block eval_stmt
-  rolled_block z = B.fold-roll-CodeBlock Act Run Run (kind_step calls) block_step stmt_step z
+  rolled_block z = B.fold-roll-CodeBlock Act Run Run (eval_kind_step calls) block_step stmt_step z
 
   rolled_stmt : (z : F.CodeStmt-F CodeStmtKind CodeBlock CodeStmt) → eval_stmt calls (S.roll-CodeStmt z) ≡ (λ vars. counted (eval_kind calls z.what z.line vars))
   unfolding eval_kind eval_block eval_stmt
-  rolled_stmt z = S.fold-roll-CodeStmt Act Run Run (kind_step calls) block_step stmt_step z
+  rolled_stmt z = S.fold-roll-CodeStmt Act Run Run (eval_kind_step calls) block_step stmt_step z
 
   -- a layer of pairs, each with its fact
   abbrev KindWith : Type 0
@@ -132,16 +132,16 @@ module _ (calls : Calls) where
   StmtWith = (s : CodeStmt) × ((vars : List ℤ) → Faultless (eval_stmt calls s vars))
 
   faultless_kinds : (z : F.CodeStmtKind-F KindWith BlockWith StmtWith) (line : ℕ) (vars : List ℤ) →
-      Faultless (kind_step calls (K.map-CodeStmtKind KindWith BlockWith StmtWith Act Run Run (λ k. eval_kind calls k.0) (λ b. eval_block calls b.0) (λ s. eval_stmt calls s.0) z) line vars)
+      Faultless (eval_kind_step calls (K.map-CodeStmtKind KindWith BlockWith StmtWith Act Run Run (λ k. eval_kind calls k.0) (λ b. eval_block calls b.0) (λ s. eval_stmt calls s.0) z) line vars)
   faultless_kinds (F.Let n e) line vars = faultless_value (value e vars line) _ (has_value e vars line) (λ v. fell (vars ++ v ∷ []))
-  faultless_kinds (F.LetFinish n k b) line vars = faultless_moved _ (faultless_finish (collecting k) true vars (eval_block calls b.0 vars) (b.1 vars))
+  faultless_kinds (F.LetFinish n k b) line vars = faultless_moved _ (faultless_finish (collecting k) line true vars (eval_block calls b.0 vars) (b.1 vars))
   faultless_kinds (F.Async b) line vars = faultless_moved _ (faultless_async vars (eval_block calls b.0 vars) (b.1 vars))
-  faultless_kinds (F.Finish b) line vars = faultless_moved _ (faultless_finish kind.Plain false vars (eval_block calls b.0 vars) (b.1 vars))
+  faultless_kinds (F.Finish b) line vars = faultless_moved _ (faultless_finish kind.Plain line false vars (eval_block calls b.0 vars) (b.1 vars))
   faultless_kinds (F.Offer e) line vars = faultless_value (value e vars line) _ (has_value e vars line) (λ v. record { codes = refl; vars = vars; end = refl })
   faultless_kinds (F.Print ps) line vars = rw (printed_falls ps vars line) (fell vars)
 
   kinds_at : (z : F.CodeStmtKind-F KindWith BlockWith StmtWith) → eval_kind calls (K.roll-CodeStmtKind (K.map-CodeStmtKind KindWith BlockWith StmtWith CodeStmtKind CodeBlock CodeStmt (λ k. k.0) (λ b. b.0) (λ s. s.0) z)) ≡
-      kind_step calls (K.map-CodeStmtKind KindWith BlockWith StmtWith Act Run Run (λ k. eval_kind calls k.0) (λ b. eval_block calls b.0) (λ s. eval_stmt calls s.0) z)
+      eval_kind_step calls (K.map-CodeStmtKind KindWith BlockWith StmtWith Act Run Run (λ k. eval_kind calls k.0) (λ b. eval_block calls b.0) (λ s. eval_stmt calls s.0) z)
   kinds_at (F.Let n e) = rolled (F.Let n e)
   kinds_at (F.LetFinish n k b) = rolled (F.LetFinish n k b.0)
   kinds_at (F.Async b) = rolled (F.Async b.0)

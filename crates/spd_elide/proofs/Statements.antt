@@ -1,7 +1,7 @@
 -- One statement of a level.
 use Rattle.std.proofs.Common.{◌≡◌, ℕ, ◌+◌, List, [], ◌∷◌, ◌++◌, length, refl, sym, ◌∙◌, ap, subst, arith, ℤ, Bor, Vec, Global}
 use Rattle.spd_check.specs.declared.code.CodeBlock.{CodeBlock}
-use Rattle.spd_elide.specs.Eval.{Calls, Fell, Fault, Eval, eval_block, quiet, counted, then_do, async_of}
+use Rattle.spd_elide.specs.Eval.{CallMeaning, Fell, Fault, Eval, eval_block, quiet, counted, then_do, async_of}
 use Rattle.spd_elide.specs.Leaves.{Leaves, silent, faulting, moving}
 use Rattle.spd_elide.specs.Left.{level_from, level_of, now_of, frames_of, run_from, async_left, Goes}
 use Rattle.spd_elide.specs.declared.frames.Step.TheVariants as step
@@ -21,7 +21,7 @@ leaves_then p a b c h g = record {
   work = let e = h.work in let f = g.work in omega arith;
 }
 
-module _ (calls : Calls) where
+module _ (calls : CallMeaning) where
   -- A statement is counted.
   pub counted_then : (l : Level) (a b s : Eval) → s ≡ counted a → Leaves (silent 0) (level_from calls l a) b → Leaves (silent 1) (level_from calls l s) b
   counted_then l a b s e h =

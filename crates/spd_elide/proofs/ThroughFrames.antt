@@ -1,6 +1,6 @@
 -- What is given passes through the frames.
 use Rattle.std.proofs.Common.{◌≡◌, ℕ, ◌+◌, List, [], ◌∷◌, ◌++◌, refl, sym, ◌∙◌, ap, subst, arith, append_assoc, ℤ, Result, Ok}
-use Rattle.spd_elide.specs.Eval.{Calls, End, Fell, Back, Fault, Eval, Run, counted, with_value, offered, after, go_on, then_do, async_of, end_codes}
+use Rattle.spd_elide.specs.Eval.{CallMeaning, End, Fell, Back, Fault, Eval, Run, counted, with_value, offered, after, go_on, then_do, async_of, end_codes}
 use Rattle.spd_elide.specs.Leaves.{Leaves, giving, silent, offering}
 use Rattle.spd_elide.specs.Left.{frame_of, frames_of, run_from, level_from, level_of}
 use Rattle.spd_elide.specs.declared.frames.Level.{Level}
@@ -54,7 +54,7 @@ leaves_async p a b vars h = record {
   work = h.work;
 }
 
-module _ (calls : Calls) where
+module _ (calls : CallMeaning) where
   leaves_frame : (f : Frame) (p a b : Eval) → Leaves p a b → Leaves p (frame_of calls f a) (frame_of calls f b)
   leaves_frame (frame.Block block next) p a b h = leaves_then_do p a b (run_from calls block.now next) h
   leaves_frame (frame.Async saved) p a b h = leaves_async p a b saved.items h

@@ -1,13 +1,16 @@
 -- What is given passes through the finishes inside, or is collected there.
-use Rattle.std.proofs.Common.{◌≡◌, ℕ, ◌+◌, ◌≤◌, List, [], ◌∷◌, ◌++◌, length, refl, ◌∙◌, ap, subst, arith, ℤ, min, Bool, Bor}
-use Rattle.spd_words.specs.Gift.{join, least, no_fault}
-use Rattle.spd_words.specs.declared.kinds.FinishKind.{FinishKind}
+use Rattle.std.proofs.Common.{◌≡◌, ℕ, ◌+◌, ◌≤◌, List, [], ◌∷◌, ◌++◌, length, refl, ◌∙◌, ap, subst, arith, ℤ, min, Bool}
+use Rattle.spd_words.specs.Gift.{join, least}
+use Rattle.spd_words.specs.Total.{Total, total_of}
+use Rattle.spd_words.specs.declared.tally.Tally.{Tally}
+use Rattle.spd_words.specs.declared.finish_kind.FinishKind.{FinishKind}
 use Rattle.spd_check.specs.declared.code.CodeBlock.{CodeBlock}
-use Rattle.spd_elide.specs.Eval.{Calls, Eval, finish_of, quiet, settled, code_of}
+use Rattle.spd_elide.specs.Eval.{CallMeaning, Eval, finish_of, end_code}
 use Rattle.spd_elide.specs.Leaves.{Leaves, giving, silent, offering, faulting, moving}
-use Rattle.spd_elide.specs.Left.{level_from, level_of, now_of, end_of, async_left, finish_left, Goes}
-use Rattle.spd_elide.specs.Machine.{inside_of, insides_of, insides_weight, Moves, machine_of}
+use Rattle.spd_elide.specs.Left.{level_from, level_of, now_of, async_left, finish_left, Goes}
+use Rattle.spd_elide.specs.Machine.{inside_of, insides_of, insides_weight, closed_inside, Moves, machine_of}
 use Rattle.spd_elide.specs.declared.frames.Level.{Level}
+use Rattle.spd_elide.specs.declared.frames.FinishAt.{FinishAt}
 use Rattle.spd_elide.specs.declared.frames.Step.TheVariants as step
 use Rattle.spd_elide.specs.declared.insides.Inside.{Inside}
 use Rattle.spd_elide.specs.declared.insides.Machine.{Machine}
@@ -18,10 +21,10 @@ use Rattle.spd_elide.proofs.ThroughFrames.{leaves_frames, leaves_refl}
 unfoldable pub bare : ℕ → ℕ → Eval
 bare moves work = giving [] [] moves work
 
-leaves_finish : (m w : ℕ) (a b : Eval) (kind : FinishKind) (g : ℤ) (f : ℕ) (binds : Bool) (vars : List ℤ) →
-    Leaves (bare m w) a b → Leaves (bare m w) (finish_of kind g f binds vars a) (finish_of kind g f binds vars b)
+leaves_finish : (m w : ℕ) (a b : Eval) (kind : FinishKind) (t : Total) (line : ℕ) (binds : Bool) (vars : List ℤ) →
+    Leaves (bare m w) a b → Leaves (bare m w) (finish_of kind t line binds vars a) (finish_of kind t line binds vars b)
 unfolding bare
-leaves_finish m w a b kind g f binds vars h = record {
+leaves_finish m w a b kind t line binds vars h = record {
   end = rw (h.offers, h.codes, h.end) refl;
   offers = refl;
   codes = refl;
@@ -29,10 +32,10 @@ leaves_finish m w a b kind g f binds vars h = record {
   work = h.work;
 }
 
-offer_collected : (x : ℤ) (a b : Eval) (kind : FinishKind) (g : ℤ) (f : ℕ) (binds : Bool) (vars : List ℤ) →
-    Leaves (offering x) a b → Leaves (bare 0 1) (finish_of kind g f binds vars a) (finish_of kind (join kind g x) f binds vars b)
+offer_collected : (x : ℤ) (a b : Eval) (kind : FinishKind) (t : Total) (line : ℕ) (binds : Bool) (vars : List ℤ) →
+    Leaves (offering x) a b → Leaves (bare 0 1) (finish_of kind t line binds vars a) (finish_of kind (record t { gift = join kind t.gift x }) line binds vars b)
 unfolding bare
-offer_collected x a b kind g f binds vars h = record {
+offer_collected x a b kind t line binds vars h = record {
   end = rw (h.offers, h.codes, h.end) refl;
   offers = refl;
   codes = refl;
@@ -40,11 +43,11 @@ offer_collected x a b kind g f binds vars h = record {
   work = h.work;
 }
 
-fault_collected : (c : ℕ) (a b : Eval) (kind : FinishKind) (g : ℤ) (f : ℕ) (binds : Bool) (vars : List ℤ) →
-    Leaves (faulting c) a b → Leaves (bare 0 0) (finish_of kind g f binds vars a) (finish_of kind g (min f c) binds vars b)
+fault_collected : (c : ℕ) (a b : Eval) (kind : FinishKind) (t : Total) (line : ℕ) (binds : Bool) (vars : List ℤ) →
+    Leaves (faulting c) a b → Leaves (bare 0 0) (finish_of kind t line binds vars a) (finish_of kind (record t { fault = min t.fault c }) line binds vars b)
 unfolding bare
-fault_collected c a b kind g f binds vars h =
-    let e : min f (min (min c (least b.codes)) (code_of b.end)) ≡ min (min f c) (min (least b.codes) (code_of b.end)) = omega arith in
+fault_collected c a b kind t line binds vars h =
+    let e : min t.fault (min (min c (least b.codes)) (end_code b.end)) ≡ min (min t.fault c) (min (least b.codes) (end_code b.end)) = omega arith in
     record {
       end = rw (h.offers, h.codes, h.end, e) refl;
       offers = refl;
@@ -60,10 +63,10 @@ insides_weight-snoc (j ∷ is) i = let h = insides_weight-snoc is i in omega ari
 kept_weight : (is : List Inside) (i j : Inside) → j.outer ≡ i.outer → insides_weight (is ++ j ∷ []) ≡ insides_weight is + (length i.outer.frames.items + 1)
 kept_weight is i j o = insides_weight-snoc is j ∙ ap (λ l. insides_weight is + (length l.frames.items + 1)) o
 
-module _ (calls : Calls) where
+module _ (calls : CallMeaning) where
   leaves_inside : (m w : ℕ) (i : Inside) (a b : Eval) → Leaves (bare m w) a b → Leaves (bare m w) (inside_of calls i a) (inside_of calls i b)
   leaves_inside m w i a b h =
-      leaves_frames calls i.outer.frames.items (bare m w) _ _ (leaves_finish m w a b i.kind i.gift i.fault i.binds i.outer.vars.items h)
+      leaves_frames calls i.outer.frames.items (bare m w) _ _ (leaves_finish m w a b i.tally.kind (total_of i.tally) i.line i.binds i.outer.vars.items h)
 
   pub leaves_insides : (is : List Inside) (m w : ℕ) (a b : Eval) → Leaves (bare m w) a b → Leaves (bare m w) (insides_of calls is a) (insides_of calls is b)
   leaves_insides [] m w a b h = h
@@ -74,11 +77,11 @@ module _ (calls : Calls) where
   insides_of-snoc (j ∷ is) i a = ap (inside_of calls j) (insides_of-snoc is i a)
 
   -- A finish inside is put back, with what it collected.
-  put_back : (is : List Inside) (i j : Inside) (m w : ℕ) (a b : Eval) → j.outer ≡ i.outer → j.binds ≡ i.binds →
-      Leaves (bare m w) (finish_of i.kind i.gift i.fault i.binds i.outer.vars.items a) (finish_of j.kind j.gift j.fault i.binds i.outer.vars.items b) →
-      Leaves (bare m w) (insides_of calls is (inside_of calls i a)) (insides_of calls (is ++ j ∷ []) b)
-  put_back is i j m w a b o e h =
-      rw (insides_of-snoc is j b, o, e) (leaves_insides is m w _ _ (leaves_frames calls i.outer.frames.items (bare m w) _ _ h))
+  put_back : (is : List Inside) (i : Inside) (t : Tally) (m w : ℕ) (a b : Eval) →
+      Leaves (bare m w) (finish_of i.tally.kind (total_of i.tally) i.line i.binds i.outer.vars.items a) (finish_of t.kind (total_of t) i.line i.binds i.outer.vars.items b) →
+      Leaves (bare m w) (insides_of calls is (inside_of calls i a)) (insides_of calls (is ++ record i { tally = t } ∷ []) b)
+  put_back is i t m w a b h =
+      rw (insides_of-snoc is (record i { tally = t }) b) (leaves_insides is m w _ _ (leaves_frames calls i.outer.frames.items (bare m w) _ _ h))
 
   -- ---- each step under a finish inside
 
@@ -89,33 +92,31 @@ module _ (calls : Calls) where
       let k = kept_weight is i i refl in
       let v : insides_weight new.inside.items ≡ insides_weight is + (length i.outer.frames.items + 1) = ap insides_weight e ∙ k in (
         h.0,
-        rw e (put_back is i i 0 h.0 a (level_of calls new.level) refl refl (leaves_finish 0 h.0 a (level_of calls new.level) i.kind i.gift i.fault i.binds i.outer.vars.items h.1)),
+        rw e (put_back is i i.tally 0 h.0 a (level_of calls new.level) (leaves_finish 0 h.0 a (level_of calls new.level) i.tally.kind (total_of i.tally) i.line i.binds i.outer.vars.items h.1)),
         let s = h.2 in omega arith,
       )
 
-  pub offer_kept : (is : List Inside) (i j : Inside) (x : ℤ) (a : Eval) (n : ℕ) (new : Machine) → j ≡ record i { gift = join i.kind i.gift x } → new.inside.items ≡ is ++ j ∷ [] → Goes calls a n new.level (step.Offer x) →
+  pub offer_kept : (is : List Inside) (i : Inside) (t : Tally) (x : ℤ) (a : Eval) (n : ℕ) (new : Machine) → t ≡ record i.tally { gift = join i.tally.kind i.tally.gift x } → new.inside.items ≡ is ++ record i { tally = t } ∷ [] → Goes calls a n new.level (step.Offer x) →
       Moves calls (insides_of calls is (inside_of calls i a)) (n + (insides_weight is + (length i.outer.frames.items + 1))) new met.Quiet
   unfolding bare
-  offer_kept is i j x a n new q e h =
-      let o : j.outer ≡ i.outer = ap (λ z. z.outer) q in
-      let k = kept_weight is i j o in
+  offer_kept is i t x a n new q e h =
+      let k = kept_weight is i (record i { tally = t }) refl in
       let v : insides_weight new.inside.items ≡ insides_weight is + (length i.outer.frames.items + 1) = ap insides_weight e ∙ k in (
         1,
-        rw (e, q) (put_back is i (record i { gift = join i.kind i.gift x }) 0 1 a (level_of calls new.level) refl refl
-            (offer_collected x a (level_of calls new.level) i.kind i.gift i.fault i.binds i.outer.vars.items h.0)),
+        rw (e, q) (put_back is i (record i.tally { gift = join i.tally.kind i.tally.gift x }) 0 1 a (level_of calls new.level)
+            (offer_collected x a (level_of calls new.level) i.tally.kind (total_of i.tally) i.line i.binds i.outer.vars.items h.0)),
         let s = h.1 in omega arith,
       )
 
-  pub fault_kept : (is : List Inside) (i j : Inside) (c : ℕ) (a : Eval) (n : ℕ) (new : Machine) → j ≡ record i { fault = min i.fault c } → new.inside.items ≡ is ++ j ∷ [] → Goes calls a n new.level (step.Fault c) →
+  pub fault_kept : (is : List Inside) (i : Inside) (t : Tally) (c : ℕ) (a : Eval) (n : ℕ) (new : Machine) → t ≡ record i.tally { fault = min i.tally.fault c } → new.inside.items ≡ is ++ record i { tally = t } ∷ [] → Goes calls a n new.level (step.Fault c) →
       Moves calls (insides_of calls is (inside_of calls i a)) (n + (insides_weight is + (length i.outer.frames.items + 1))) new met.Quiet
   unfolding bare
-  fault_kept is i j c a n new q e h =
-      let o : j.outer ≡ i.outer = ap (λ z. z.outer) q in
-      let k = kept_weight is i j o in
+  fault_kept is i t c a n new q e h =
+      let k = kept_weight is i (record i { tally = t }) refl in
       let v : insides_weight new.inside.items ≡ insides_weight is + (length i.outer.frames.items + 1) = ap insides_weight e ∙ k in (
         0,
-        rw (e, q) (put_back is i (record i { fault = min i.fault c }) 0 0 a (level_of calls new.level) refl refl
-            (fault_collected c a (level_of calls new.level) i.kind i.gift i.fault i.binds i.outer.vars.items h.0)),
+        rw (e, q) (put_back is i (record i.tally { fault = min i.tally.fault c }) 0 0 a (level_of calls new.level)
+            (fault_collected c a (level_of calls new.level) i.tally.kind (total_of i.tally) i.line i.binds i.outer.vars.items h.0)),
         let s = h.1 in omega arith,
       )
 
@@ -127,19 +128,19 @@ module _ (calls : Calls) where
       let k = kept_weight is i i refl in
       let v : insides_weight new.inside.items ≡ insides_weight is + (length i.outer.frames.items + 1) = ap insides_weight e ∙ k in
       let b = level_from calls l (async_left calls body l.vars.items) in (
-        rw (e, q) (put_back is i i 1 1 b (level_of calls new.level) refl refl (leaves_finish 1 1 b (level_of calls new.level) i.kind i.gift i.fault i.binds i.outer.vars.items h)),
+        rw (e, q) (put_back is i i.tally 1 1 b (level_of calls new.level) (leaves_finish 1 1 b (level_of calls new.level) i.tally.kind (total_of i.tally) i.line i.binds i.outer.vars.items h)),
         omega arith,
       )
 
-  pub finish_kept : (is : List Inside) (i : Inside) (a : Eval) (n : ℕ) (new : Machine) (kind : FinishKind) (binds : Bool) (body : Bor CodeBlock) → new.inside.items ≡ is ++ i ∷ [] →
-      Goes calls a n new.level (step.Finish kind binds body) → Moves calls (insides_of calls is (inside_of calls i a)) (n + (insides_weight is + (length i.outer.frames.items + 1))) new (met.Finish kind binds body)
-  finish_kept is i a n new kind binds body e h =
+  pub finish_kept : (is : List Inside) (i : Inside) (a : Eval) (n : ℕ) (new : Machine) (f : FinishAt) → new.inside.items ≡ is ++ i ∷ [] →
+      Goes calls a n new.level (step.Finish f) → Moves calls (insides_of calls is (inside_of calls i a)) (n + (insides_weight is + (length i.outer.frames.items + 1))) new (met.Finish f)
+  finish_kept is i a n new f e h =
       let k = kept_weight is i i refl in
       let v : insides_weight new.inside.items ≡ insides_weight is + (length i.outer.frames.items + 1) = ap insides_weight e ∙ k in
-      (rw (e, insides_of-snoc is i (level_from calls new.level (finish_left calls kind binds body.now new.level.vars.items)), h.0) refl, h.1, let s = h.2 in omega arith)
+      (rw (e, insides_of-snoc is i (level_from calls new.level (finish_left calls f new.level.vars.items)), h.0) refl, h.1, let s = h.2 in omega arith)
 
   pub closed : (is : List Inside) (i : Inside) (a : Eval) (n : ℕ) (l : Level) (new : Machine) → new.inside.items ≡ is → new.level.frames.items ≡ i.outer.frames.items →
-      now_of new.level ≡ quiet (settled (min i.fault (min no_fault (code_of (end_of l.flow l.vars.items)))) i.binds i.outer.vars.items i.gift) → Goes calls a n l step.Over →
+      now_of new.level ≡ closed_inside i l → Goes calls a n l step.Over →
       Moves calls (insides_of calls is (inside_of calls i a)) (n + (insides_weight is + (length i.outer.frames.items + 1))) new met.Quiet
   unfolding bare
   closed is i a n l new e s t h =

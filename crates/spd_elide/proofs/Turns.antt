@@ -3,7 +3,7 @@ use Rattle.std.proofs.Common.{◌≡◌, ℕ, zero, suc, ◌+◌, ◌≤◌, Lis
 use Rattle.std.specs.Prelude.{map}
 use Rattle.spd_check.specs.declared.code.CodeBlock.{CodeBlock, out-CodeBlock}
 use Rattle.spd_check.specs.declared.code.CodeStmt.{CodeStmt}
-use Rattle.spd_elide.specs.Eval.{Calls, Fell, Eval, Run, quiet, then_do, run, eval_stmt}
+use Rattle.spd_elide.specs.Eval.{CallMeaning, Fell, Eval, Run, quiet, then_do, run, eval_stmt}
 use Rattle.spd_elide.specs.Leaves.{Leaves, silent}
 use Rattle.spd_elide.specs.Left.{level_from, level_of, now_of, end_of, frames_of, frame_of, run_from, Goes, Comes}
 use Rattle.spd_elide.specs.declared.frames.Level.{Level}
@@ -21,14 +21,14 @@ drop_some f [] n x h = absurd (cc)
 drop_some f (y ∷ ys) zero x h = let e : y ≡ x = cc in ap (λ z. f z ∷ map f ys) e
 drop_some f (y ∷ ys) (suc n) x h = drop_some f ys n x h
 
-module _ (calls : Calls) where
+module _ (calls : CallMeaning) where
   -- A statement is counted, so the size falls though it may push a frame.
   comes_goes : (a : Eval) (n : ℕ) (new : Level) (s : Step) → length new.frames.items ≤ n + 1 → Comes calls a new s → Goes calls a n new s
   comes_goes a n new step.Quiet k h = (1, h, omega arith)
   comes_goes a n new (step.Offer x) k h = (h, k)
   comes_goes a n new (step.Fault c) k h = absurd h
   comes_goes a n new (step.Async body) k h = (h.0, h.1, k)
-  comes_goes a n new (step.Finish kind binds body) k h = (h.0, h.1, k)
+  comes_goes a n new (step.Finish f) k h = (h.0, h.1, k)
   comes_goes a n new step.Over k h = absurd h
 
   rest_step : (b : CodeBlock) (next : ℕ) (s : CodeStmt) (vars : List ℤ) → slice_get (out-CodeBlock b).stmts next ≡ Some s →

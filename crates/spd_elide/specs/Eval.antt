@@ -1,10 +1,11 @@
 -- What a checked program means: the serial elision, by recursion on the tree.
 use Rattle.std.specs.Prelude.{ℕ, ◌+◌, ◌==◌, List, [], ◌∷◌, ◌++◌, min, ℤ, pos, Result, Ok, Err, Bool, true, false, if◌then◌else◌, slice_get, unwrap_or}
 use Rattle.std.specs.Int.{w64, int_wrapping_add}
-use Rattle.spd_words.specs.Gift.{no_fault, identity, joined, gift, least}
-use Rattle.spd_words.specs.View.{Promise}
-use Rattle.spd_words.specs.declared.kinds.FinishKind.{FinishKind}
-use Rattle.spd_words.specs.declared.kinds.FinishKind.TheVariants as kind
+use Rattle.spd_words.specs.Gift.{no_fault, joined, gift, least}
+use Rattle.spd_words.specs.Total.{Total, nothing, settle, at_line}
+use Rattle.spd_words.specs.Meaning.{Promise}
+use Rattle.spd_words.specs.declared.finish_kind.FinishKind.{FinishKind}
+use Rattle.spd_words.specs.declared.finish_kind.FinishKind.TheVariants as kind
 use Rattle.spd_syntax.specs.declared.tree.BinOp.{BinOp}
 use Rattle.spd_syntax.specs.declared.tree.BinOp.TheVariants.{Add}
 use Rattle.spd_syntax.specs.declared.tree.Collect.{Collect}
@@ -93,11 +94,11 @@ abbrev pub Act : Type 0
 Act = ℕ → List ℤ → Eval
 
 -- what a call gives: the number of what is called, the arguments and the line of the call
-abbrev pub Calls : Type 0
-Calls = ℕ → List ℤ → ℕ → Eval
+abbrev pub CallMeaning : Type 0
+CallMeaning = ℕ → List ℤ → ℕ → Eval
 
 -- No function or task can be declared yet, so none is called.
-abbrev pub no_calls : Calls
+abbrev pub no_calls : CallMeaning
 no_calls called args line = quiet (Fell [])
 
 abbrev pub with_value : Result ℤ ℕ → (ℤ → Eval) → Eval
@@ -114,10 +115,10 @@ printed [] vars line = quiet (Fell vars)
 printed (p ∷ ps) vars line = with_value (part_fault p vars line) (λ v. printed ps vars line)
 
 -- the code of a fault at an end
-abbrev pub code_of : End → ℕ
-code_of (Fell vars) = no_fault
-code_of (Back value) = no_fault
-code_of (Fault code) = min code no_fault
+abbrev pub end_code : End → ℕ
+end_code (Fell vars) = no_fault
+end_code (Back value) = no_fault
+end_code (Fault code) = min code no_fault
 
 -- The fault of an async goes to its finish, and stops nothing else.
 abbrev pub end_codes : End → List ℕ
@@ -136,15 +137,21 @@ bound false vars v = vars
 
 -- the least code of an evaluation and its end
 abbrev pub fault_of : Eval → ℕ
-fault_of a = min (least a.codes) (code_of a.end)
+fault_of a = min (least a.codes) (end_code a.end)
 
-abbrev pub settled : ℕ → Bool → List ℤ → ℤ → End
-settled code binds vars g = if code == no_fault then Fell (bound binds vars g) else Fault code
+-- what a finish has collected that had this total, and the rest of whose block evaluates so
+abbrev pub collected : FinishKind → Total → Eval → Total
+collected kind total a = record { gift = joined kind total.gift a.offers; fault = min total.fault (fault_of a) }
 
--- a finish over these values that has collected this gift and this fault, and the rest of whose block evaluates so
-abbrev pub finish_of : FinishKind → ℤ → ℕ → Bool → List ℤ → Eval → Eval
-finish_of kind g f binds vars a = record {
-  end = settled (min f (fault_of a)) binds vars (joined kind g a.offers);
+-- how a finish at this line ends over these values, where this left it
+abbrev pub finish_end : ℕ → Bool → List ℤ → Total → End
+finish_end line binds vars total =
+    if total.fault == no_fault then Fell (bound binds vars total.gift) else Fault (at_line line total.fault)
+
+-- a finish at this line over these values that has collected this, and the rest of whose block evaluates so
+abbrev pub finish_of : FinishKind → Total → ℕ → Bool → List ℤ → Eval → Eval
+finish_of kind total line binds vars a = record {
+  end = finish_end line binds vars (settle (collected kind total a));
   offers = [];
   codes = [];
   moves = a.moves;
@@ -152,8 +159,8 @@ finish_of kind g f binds vars a = record {
 }
 
 -- a finish that has collected nothing yet
-abbrev pub whole_finish : FinishKind → Bool → List ℤ → Eval → Eval
-whole_finish kind binds vars a = finish_of kind (identity kind) no_fault binds vars a
+abbrev pub whole_finish : FinishKind → ℕ → Bool → List ℤ → Eval → Eval
+whole_finish kind line binds vars a = finish_of kind (nothing kind) line binds vars a
 
 abbrev pub offered : List ℤ → ℤ → Eval
 offered vars v = record { end = Fell vars; offers = v ∷ []; codes = []; moves = 0; work = 0 }
@@ -168,13 +175,13 @@ run [] vars = quiet (Fell vars)
 run (s ∷ ss) vars = then_do (s vars) (run ss)
 
 -- what a statement does, by what stands for the blocks in it
-abbrev pub kind_step : Calls → code.CodeStmtKind-F Act Run Run → Act
-kind_step calls (code.Let name e) line vars = with_value (value e vars line) (λ v. quiet (Fell (vars ++ v ∷ [])))
-kind_step calls (code.LetFinish name kind body) line vars = moved (whole_finish (collecting kind) true vars (body vars))
-kind_step calls (code.Async body) line vars = moved (async_of vars (body vars))
-kind_step calls (code.Finish body) line vars = moved (whole_finish kind.Plain false vars (body vars))
-kind_step calls (code.Offer e) line vars = with_value (value e vars line) (offered vars)
-kind_step calls (code.Print parts) line vars = printed parts vars line
+abbrev pub eval_kind_step : CallMeaning → code.CodeStmtKind-F Act Run Run → Act
+eval_kind_step calls (code.Let name e) line vars = with_value (value e vars line) (λ v. quiet (Fell (vars ++ v ∷ [])))
+eval_kind_step calls (code.LetFinish name kind body) line vars = moved (whole_finish (collecting kind) line true vars (body vars))
+eval_kind_step calls (code.Async body) line vars = moved (async_of vars (body vars))
+eval_kind_step calls (code.Finish body) line vars = moved (whole_finish kind.Plain line false vars (body vars))
+eval_kind_step calls (code.Offer e) line vars = with_value (value e vars line) (offered vars)
+eval_kind_step calls (code.Print parts) line vars = printed parts vars line
 
 abbrev pub stmt_step : code.CodeStmt-F Act Run Run → Run
 stmt_step s vars = counted (s.what s.line vars)
@@ -182,17 +189,21 @@ stmt_step s vars = counted (s.what s.line vars)
 abbrev pub block_step : code.CodeBlock-F Act Run Run → Run
 block_step b = run b.stmts
 
-unfoldable pub eval_block : Calls → CodeBlock → Run
-eval_block calls b = fold-CodeBlock Act Run Run (kind_step calls) block_step stmt_step b
+unfoldable pub eval_block : CallMeaning → CodeBlock → Run
+eval_block calls b = fold-CodeBlock Act Run Run (eval_kind_step calls) block_step stmt_step b
 
-unfoldable pub eval_stmt : Calls → CodeStmt → Run
-eval_stmt calls s = fold-CodeStmt Act Run Run (kind_step calls) block_step stmt_step s
+unfoldable pub eval_stmt : CallMeaning → CodeStmt → Run
+eval_stmt calls s = fold-CodeStmt Act Run Run (eval_kind_step calls) block_step stmt_step s
 
-unfoldable pub eval_kind : Calls → CodeStmtKind → Act
-eval_kind calls k = fold-CodeStmtKind Act Run Run (kind_step calls) block_step stmt_step k
+unfoldable pub eval_kind : CallMeaning → CodeStmtKind → Act
+eval_kind calls k = fold-CodeStmtKind Act Run Run (eval_kind_step calls) block_step stmt_step k
 
 -- ---- jobs
 
--- what a job gives whose block evaluates so
+-- what leaves a job whose block evaluates so
+abbrev pub job_total : FinishKind → Eval → Total
+job_total kind a = settle (record { gift = gift kind a.offers; fault = fault_of a })
+
+-- the same with its moves
 abbrev pub job_result : FinishKind → Eval → Promise
-job_result kind a = record { gift = gift kind a.offers; fault = fault_of a; moves = a.moves }
+job_result kind a = let total = job_total kind a in record { gift = total.gift; fault = total.fault; moves = a.moves }

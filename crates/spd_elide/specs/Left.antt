@@ -1,9 +1,9 @@
 -- What is left of a level: its frames over what runs now.
-use Rattle.std.specs.Prelude.{◌≡◌, ℕ, ◌+◌, ◌*◌, ◌<◌, ◌≤◌, List, [], ◌∷◌, length, drop, map, ℤ, Bool}
-use Rattle.spd_words.specs.declared.kinds.FinishKind.{FinishKind}
+use Rattle.std.specs.Prelude.{◌≡◌, ℕ, ◌+◌, ◌*◌, ◌<◌, ◌≤◌, List, [], ◌∷◌, length, drop, map, ℤ}
 use Rattle.spd_check.specs.declared.code.CodeBlock.{CodeBlock, out-CodeBlock}
-use Rattle.spd_elide.specs.Eval.{Calls, End, Fell, Fault, Eval, Run, quiet, counted, moved, whole_finish, then_do, run, async_of, eval_block, eval_stmt}
+use Rattle.spd_elide.specs.Eval.{CallMeaning, End, Fell, Fault, Eval, Run, quiet, counted, moved, whole_finish, then_do, run, async_of, eval_block, eval_stmt}
 use Rattle.spd_elide.specs.Leaves.{Leaves, silent, offering, faulting}
+use Rattle.spd_elide.specs.declared.frames.FinishAt.{FinishAt}
 use Rattle.spd_elide.specs.declared.frames.Frame.{Frame}
 use Rattle.spd_elide.specs.declared.frames.Frame.TheVariants as frame
 use Rattle.spd_elide.specs.declared.frames.Flow.{Flow}
@@ -20,7 +20,7 @@ end_of (flow.Fault code) vars = Fault code
 abbrev pub now_of : Level → Eval
 now_of level = quiet (end_of level.flow level.vars.items)
 
-module _ (calls : Calls) where
+module _ (calls : CallMeaning) where
   -- the statements of a block from a place on
   abbrev pub run_from : CodeBlock → ℕ → Run
   run_from block next = run (drop next (map (eval_stmt calls) (out-CodeBlock block).stmts))
@@ -46,8 +46,8 @@ module _ (calls : Calls) where
   abbrev pub async_left : CodeBlock → List ℤ → Eval
   async_left body vars = counted (moved (async_of vars (eval_block calls body vars)))
 
-  abbrev pub finish_left : FinishKind → Bool → CodeBlock → List ℤ → Eval
-  finish_left kind binds body vars = counted (moved (whole_finish kind binds vars (eval_block calls body vars)))
+  abbrev pub finish_left : FinishAt → List ℤ → Eval
+  finish_left f vars = counted (moved (whole_finish f.kind f.line f.binds vars (eval_block calls f.body.now vars)))
 
   -- From this evaluation a level came to this state by this step of a statement.
   abbrev pub Comes : Eval → Level → Step → Type 0
@@ -55,7 +55,7 @@ module _ (calls : Calls) where
   Comes a new (step.Offer x) = Leaves (offering x) a (level_of new)
   Comes a new (step.Fault code) = ⊥
   Comes a new (step.Async body) = (a ≡ level_from new (async_left body.now new.vars.items)) × (new.flow ≡ flow.Fell)
-  Comes a new (step.Finish kind binds body) = (a ≡ level_from new (finish_left kind binds body.now new.vars.items)) × (new.flow ≡ flow.Fell)
+  Comes a new (step.Finish f) = (a ≡ level_from new (finish_left f new.vars.items)) × (new.flow ≡ flow.Fell)
   Comes a new step.Over = ⊥
 
   -- From this evaluation and so many frames a level came to this state by this step of a turn.
@@ -65,6 +65,6 @@ module _ (calls : Calls) where
   Goes a n new (step.Fault code) = Leaves (faulting code) a (level_of new) × (length new.frames.items < n)
   Goes a n new (step.Async body) =
       (a ≡ level_from new (async_left body.now new.vars.items)) × (new.flow ≡ flow.Fell) × (length new.frames.items ≤ n + 1)
-  Goes a n new (step.Finish kind binds body) =
-      (a ≡ level_from new (finish_left kind binds body.now new.vars.items)) × (new.flow ≡ flow.Fell) × (length new.frames.items ≤ n + 1)
+  Goes a n new (step.Finish f) =
+      (a ≡ level_from new (finish_left f new.vars.items)) × (new.flow ≡ flow.Fell) × (length new.frames.items ≤ n + 1)
   Goes a n new step.Over = (a ≡ now_of new) × (new.frames.items ≡ [])

@@ -1,9 +1,11 @@
 -- What is left of a machine, and what its turns leave.
-use Rattle.std.specs.Prelude.{◌≡◌, ℕ, ◌+◌, ◌*◌, ◌<◌, ◌≤◌, min, List, [], ◌∷◌, length, ℤ, Bool, true, false}
-use Rattle.spd_words.specs.Gift.{joined}
-use Rattle.spd_elide.specs.Eval.{Calls, Eval, finish_of, fault_of}
+use Rattle.std.specs.Prelude.{◌≡◌, ℕ, ◌+◌, ◌*◌, ◌<◌, ◌≤◌, List, [], ◌∷◌, length, Bool, true, false}
+use Rattle.spd_words.specs.Total.{Total, total_of, settle}
+use Rattle.spd_words.specs.declared.tally.Tally.{Tally}
+use Rattle.spd_elide.specs.Eval.{CallMeaning, Eval, quiet, finish_end, finish_of, collected}
 use Rattle.spd_elide.specs.Leaves.{Leaves, giving, silent, offering, faulting, moving}
 use Rattle.spd_elide.specs.Left.{level_from, now_of, async_left, finish_left}
+use Rattle.spd_elide.specs.declared.frames.Level.{Level}
 use Rattle.spd_elide.specs.declared.frames.Flow.TheVariants as flow
 use Rattle.spd_elide.specs.declared.frames.Step.{Step}
 use Rattle.spd_elide.specs.declared.frames.Step.TheVariants as step
@@ -11,7 +13,6 @@ use Rattle.spd_elide.specs.declared.insides.Inside.{Inside}
 use Rattle.spd_elide.specs.declared.insides.Machine.{Machine}
 use Rattle.spd_elide.specs.declared.insides.Met.{Met}
 use Rattle.spd_elide.specs.declared.insides.Met.TheVariants as met
-use Rattle.spd_elide.specs.declared.insides.Collected.{Collected}
 
 -- ---- the frames that are still to be taken off
 
@@ -28,22 +29,25 @@ outward step.Quiet = met.Quiet
 outward (step.Offer x) = met.Offer x
 outward (step.Fault code) = met.Fault code
 outward (step.Async body) = met.Async body
-outward (step.Finish kind binds body) = met.Finish kind binds body
+outward (step.Finish f) = met.Finish f
 outward step.Over = met.Over
 
--- the gift and the fault of a finish that has collected this, and for which this is left
-abbrev pub gift_with : Collected → Eval → ℤ
-gift_with collected a = joined collected.kind collected.gift a.offers
+-- what a finish will have that has collected this, and for which this is left
+abbrev pub will_have : Tally → Eval → Total
+will_have tally a = collected tally.kind (total_of tally) a
 
-abbrev pub fault_with : Collected → Eval → ℕ
-fault_with collected a = min collected.fault (fault_of a)
+-- what goes on behind a finish inside that has ended so
+abbrev pub closed_inside : Inside → Level → Eval
+closed_inside i level =
+    let total = settle (collected i.tally.kind (total_of i.tally) (now_of level)) in
+    quiet (finish_end i.line i.binds i.outer.vars.items total)
 
-module _ (calls : Calls) where
+module _ (calls : CallMeaning) where
   -- ---- what is left
 
   -- what a finish inside, and what goes on behind it, make of what ended in it
   abbrev pub inside_of : Inside → Eval → Eval
-  inside_of i a = level_from calls i.outer (finish_of i.kind i.gift i.fault i.binds i.outer.vars.items a)
+  inside_of i a = level_from calls i.outer (finish_of i.tally.kind (total_of i.tally) i.line i.binds i.outer.vars.items a)
 
   -- the finishes inside, the outermost first
   abbrev pub insides_of : List Inside → Eval → Eval
@@ -71,8 +75,8 @@ module _ (calls : Calls) where
   Moves a n new met.Held = Leaves moving a (machine_of new) × (weight new ≤ n + 3)
   Moves a n new (met.Async body) =
       (a ≡ machine_from new (async_left calls body.now new.level.vars.items)) × (new.level.flow ≡ flow.Fell) × (weight new ≤ n + 1) × (new.inside.items ≡ [])
-  Moves a n new (met.Finish kind binds body) =
-      (a ≡ machine_from new (finish_left calls kind binds body.now new.level.vars.items)) × (new.level.flow ≡ flow.Fell) × (weight new ≤ n + 1)
+  Moves a n new (met.Finish f) =
+      (a ≡ machine_from new (finish_left calls f new.level.vars.items)) × (new.level.flow ≡ flow.Fell) × (weight new ≤ n + 1)
   Moves a n new met.Over = (a ≡ now_of new.level) × (new.level.frames.items ≡ []) × (new.inside.items ≡ [])
 
   -- It came there by turns of which the last alone met something.
@@ -83,15 +87,14 @@ module _ (calls : Calls) where
   Far a n new met.Held = (work : ℕ) × Leaves (giving [] [] 1 work) a (machine_of new) × (weight new < 4 * work + n) × (1 ≤ work)
   Far a n new (met.Async body) = (work : ℕ) × Leaves (silent work) a (machine_from new (async_left calls body.now new.level.vars.items))
       × (new.inside.items ≡ []) × (new.level.flow ≡ flow.Fell) × (weight new ≤ 4 * work + n + 1)
-  Far a n new (met.Finish kind binds body) = (work : ℕ) × Leaves (silent work) a (machine_from new (finish_left calls kind binds body.now new.level.vars.items))
+  Far a n new (met.Finish f) = (work : ℕ) × Leaves (silent work) a (machine_from new (finish_left calls f new.level.vars.items))
       × (new.level.flow ≡ flow.Fell) × (weight new ≤ 4 * work + n + 1)
   Far a n new met.Over = (work : ℕ) × Leaves (silent work) a (now_of new.level)
       × (new.level.frames.items ≡ []) × (new.inside.items ≡ []) × (weight new ≤ 4 * work + n)
 
 -- A turn, with all that it met collected, keeps what the finish will have.
-pub record Plays (calls : Calls) (old new : Collected) (before after : Machine) (over : Bool) : Type 0 where
+pub record KeepsTotals (calls : CallMeaning) (old new : Tally) (before after : Machine) (over : Bool) : Type 0 where
   pub kind : new.kind ≡ old.kind
-  pub gift : gift_with old (machine_of calls before) ≡ gift_with new (machine_of calls after)
-  pub fault : fault_with old (machine_of calls before) ≡ fault_with new (machine_of calls after)
+  pub total : will_have old (machine_of calls before) ≡ will_have new (machine_of calls after)
   pub falls : over ≡ false → machine_size calls after < machine_size calls before
   pub ends : over ≡ true → machine_of calls after ≡ now_of after.level

@@ -1,23 +1,26 @@
-ghost use Rattle.std.specs.Prelude.{◌≡◌, IfOk};
-ghost use Rattle.spd_words.specs.Gift.{gift};
-ghost use Rattle.spd_check.specs.declared.code.CodeBlock.{CodeBlock};
-ghost use Rattle.spd_elide.specs.Eval.{no_calls, eval_block, fault_of};
-ghost use Rattle.spd_elide.specs.Jobs.{IsLawful, Gives};
-ghost use Rattle.spd_elide.specs.Left.{now_of};
-ghost use Rattle.spd_elide.specs.Machine.{Plays, gift_with, fault_with};
+// The serial elision of a job.
 
-use crate::frames::{Flow, Level};
-use crate::insides::{Collected, Machine, Met};
-use crate::jobs::{Given, Job, JobBody, Regions};
+ghost use Rattle.std.specs.Prelude.{◌≡◌, IfOk};
+ghost use Rattle.spd_words.specs.Total.{ended, settle};
+ghost use Rattle.spd_check.specs.declared.code.CodeBlock.{CodeBlock};
+ghost use Rattle.spd_elide.specs.Eval.{no_calls, eval_block, job_total};
+ghost use Rattle.spd_elide.specs.Jobs.{IsLawful, JobGives};
+ghost use Rattle.spd_elide.specs.Left.{now_of};
+ghost use Rattle.spd_elide.specs.Machine.{KeepsTotals, will_have};
+
+use crate::frames::Level;
+use crate::insides::{Machine, Met};
+use crate::jobs::{Job, JobBody, Regions};
+use crate::moving::with_end;
 use spd_check::{Code, CodeBlock};
-use spd_words::{FinishKind, NO_FAULT};
+use spd_words::{FinishKind, Given, Tally};
 use std::alloc::{AllocError, Global};
 
 /// What a job gives over a code, where every async and finish runs where it stands. It fails
 /// where memory runs out.
 pub fn elide_body(alloc: Global, code: &Code, job: &Job) -> Result<Given, AllocError>
     requires { IsLawful code.now job.now.body }
-    ensures { IfOk result (λ given. Gives code.now job.now given) }
+    ensures { IfOk result (λ given. JobGives code.now job.now given) }
 {
     match &job.body {
         JobBody::Block { block, vars } => {
@@ -59,65 +62,44 @@ fn elide_block(
     block: &CodeBlock,
     vars: Vec<i64>,
 ) -> Result<Given, AllocError>
-    ensures gift { IfOk result (λ given. given.gift ≡ gift kind (eval_block no_calls block.now vars.items).offers) }
-    ensures fault { IfOk result (λ given. given.fault ≡ fault_of (eval_block no_calls block.now vars.items)) }
+    ensures { IfOk result (λ given. ended given ≡ job_total kind (eval_block no_calls block.now vars.items)) }
 {
     let mut machine = Machine {
         level: Level::of_block(block, vars)?,
         inside: Vec::new(alloc),
     };
-    let mut collected = Collected {
-        kind,
-        gift: kind.identity(),
-        fault: NO_FAULT,
-    };
+    let mut tally = Tally::new(kind);
     loop {
-        let over = play(&mut machine, &mut collected)?;
+        let over = play(&mut machine, &mut tally)?;
         if over {
-            return Ok(given_by(&machine, &collected));
+            return Ok(with_end(tally, &machine.level.flow).given());
         }
     }
 }
 
 /// One turn, with every async and finish run inside. It says whether that was the end.
-fn play<'a>(machine: &mut Machine<'a>, collected: &mut Collected) -> Result<bool, AllocError>
-    ensures { IfOk result (λ over. Plays no_calls collected.old collected.new machine.old machine.new over) }
+fn play<'a>(machine: &mut Machine<'a>, tally: &mut Tally) -> Result<bool, AllocError>
+    ensures { IfOk result (λ over. KeepsTotals no_calls tally.old tally.new machine.old machine.new over) }
 {
     match machine.turn()? {
         Met::Quiet => Ok(false),
         Met::Held => Ok(false),
         Met::Offer(x) => {
-            collected.gift = collected.kind.join(collected.gift, x);
+            tally.offer(x);
             Ok(false)
         }
         Met::Fault(code) => {
-            collected.fault = collected.fault.min(code);
+            tally.fault(code);
             Ok(false)
         }
         Met::Async(body) => {
             machine.hold(body)?;
             Ok(false)
         }
-        Met::Finish { kind, binds, body } => {
-            machine.open(kind, binds, body)?;
+        Met::Finish(finish) => {
+            machine.open(finish)?;
             Ok(false)
         }
         Met::Over => Ok(true),
-    }
-}
-
-/// What is given at the end of a machine, where a fault of its own may stand.
-fn given_by(machine: &Machine, collected: &Collected) -> Given
-    ensures gift { result.gift ≡ gift_with collected.now (now_of machine.now.level) }
-    ensures fault { result.fault ≡ fault_with collected.now (now_of machine.now.level) }
-{
-    let fault = collected.fault;
-    let fault = match machine.level.flow {
-        Flow::Fault(code) => fault.min(code),
-        Flow::Fell => fault,
-    };
-    Given {
-        gift: collected.gift,
-        fault,
     }
 }

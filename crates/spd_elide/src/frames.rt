@@ -1,3 +1,5 @@
+// What is under way while statements run: frames, a level, and what a turn of a level met.
+
 use spd_check::CodeBlock;
 use spd_words::FinishKind;
 
@@ -27,6 +29,17 @@ pub struct Level<'a> {
     pub frames: Vec<Frame<'a>>,
 }
 
+/// A finish statement that is under way.
+#[derive(Drop)]
+pub struct FinishAt<'a> {
+    pub kind: FinishKind,
+    /// The gift is bound to a new name.
+    pub binds: bool,
+    /// The line of the statement, from 1.
+    pub line: u32,
+    pub body: &'a CodeBlock,
+}
+
 /// What a turn of a level met.
 #[derive(Drop)]
 pub enum Step<'a> {
@@ -34,11 +47,6 @@ pub enum Step<'a> {
     Offer(i64),
     Fault(u64),
     Async(&'a CodeBlock),
-    /// A finish of this kind, whose gift is bound to a new name or to none.
-    Finish {
-        kind: FinishKind,
-        binds: bool,
-        body: &'a CodeBlock,
-    },
+    Finish(FinishAt<'a>),
     Over,
 }

@@ -1,16 +1,17 @@
-use crate::frames::Level;
+// Finishes that run inside, and what a turn of a machine met.
+
+use crate::frames::{FinishAt, Level};
 use spd_check::CodeBlock;
-use spd_words::FinishKind;
+use spd_words::Tally;
 
 /// A finish that runs inside, with what it has collected, and what goes on behind it.
 #[derive(Drop)]
 pub struct Inside<'a> {
-    pub kind: FinishKind,
-    pub gift: i64,
-    /// The least fault, or `NO_FAULT`.
-    pub fault: u64,
+    pub tally: Tally,
     /// The gift is bound to a new name.
     pub binds: bool,
+    /// The line of the finish statement.
+    pub line: u32,
     pub outer: Level<'a>,
 }
 
@@ -32,19 +33,6 @@ pub enum Met<'a> {
     Async(&'a CodeBlock),
     /// An async that belongs to a finish inside, and so runs inside.
     Held,
-    /// A finish of this kind, whose gift is bound to a new name or to none.
-    Finish {
-        kind: FinishKind,
-        binds: bool,
-        body: &'a CodeBlock,
-    },
+    Finish(FinishAt<'a>),
     Over,
-}
-
-/// What a finish of this kind has collected: a gift, and a least fault or `NO_FAULT`.
-#[derive(Drop)]
-pub struct Collected {
-    pub kind: FinishKind,
-    pub gift: i64,
-    pub fault: u64,
 }

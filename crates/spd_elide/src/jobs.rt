@@ -1,9 +1,11 @@
+// Finishes that are given as pieces of work of their own, and what runs them.
+
 ghost use Rattle.std.specs.Prelude.{◌≡◌, IfOk};
 ghost use Rattle.spd_check.specs.declared.code.CodeBlock.{CodeBlock};
-ghost use Rattle.spd_elide.specs.Jobs.{IsLawful, Gives};
+ghost use Rattle.spd_elide.specs.Jobs.{IsLawful, JobGives};
 
 use spd_list::Seq;
-use spd_words::FinishKind;
+use spd_words::{FinishKind, Given};
 use std::alloc::{AllocError, Global};
 
 /// The values of the names that are visible at a block, in the order in which they became so.
@@ -23,13 +25,6 @@ pub struct Job {
     pub body: JobBody,
 }
 
-/// What a job gives: its gift, and its least fault or `NO_FAULT`.
-#[derive(Clone, Copy, PartialEq, Eq, Debug, Drop)]
-pub struct Given {
-    pub gift: i64,
-    pub fault: u64,
-}
-
 /// What runs jobs over a code.
 pub trait Regions {
     /// The block of main of the code.
@@ -38,6 +33,6 @@ pub trait Regions {
     /// Runs the finish of a job to its end.
     fn region(&mut self, alloc: Global, job: Job) -> Result<Given, AllocError>
         requires { IsLawful (code self.old) job.body }
-        ensures given { IfOk result (λ given. Gives (code self.old) job given) }
+        ensures given { IfOk result (λ given. JobGives (code self.old) job given) }
         ensures code { code self.new ≡ code self.old };
 }

@@ -11,9 +11,9 @@ mod stepping;
 mod value;
 
 pub use eliding::{ElideRegions, elide_body};
-pub use frames::{Flow, Frame, Level, Step};
-pub use insides::{Collected, Inside, Machine, Met};
-pub use jobs::{Given, Job, JobBody, Regions, Vars};
+pub use frames::{FinishAt, Flow, Frame, Level, Step};
+pub use insides::{Inside, Machine, Met};
+pub use jobs::{Job, JobBody, Regions, Vars};
 pub use opening::copy_of;
 pub use stepping::kind_of;
 pub use value::value_of;

@@ -1,12 +1,14 @@
-ghost use Rattle.std.specs.Prelude.{◌≡◌, ◌+◌, IfOk, length, min, ℕ};
-ghost use Rattle.spd_words.specs.Gift.{join, no_fault};
-ghost use Rattle.spd_elide.specs.Eval.{no_calls, Eval, quiet, settled, code_of};
+// Turns of a machine, and the ends of finishes that ran inside it.
+
+ghost use Rattle.std.specs.Prelude.{◌≡◌, ◌+◌, IfOk, List, length, ℕ, ℤ};
+ghost use Rattle.spd_words.specs.Total.{total_of, ended};
+ghost use Rattle.spd_elide.specs.Eval.{no_calls, Eval, quiet, collected, finish_end};
 ghost use Rattle.spd_elide.specs.Left.{now_of, end_of, Goes};
-ghost use Rattle.spd_elide.specs.Machine.{machine_of, weight, Moves, Far, inside_of, insides_of, insides_weight, outward};
+ghost use Rattle.spd_elide.specs.Machine.{machine_of, weight, Moves, Far, inside_of, insides_of, insides_weight, outward, closed_inside};
 
 use crate::frames::{Flow, Level, Step};
 use crate::insides::{Inside, Machine, Met};
-use spd_words::NO_FAULT;
+use spd_words::{Given, NO_FAULT, Tally};
 use std::alloc::AllocError;
 
 impl<'a> Machine<'a> {
@@ -38,8 +40,11 @@ impl<'a> Machine<'a> {
     }
 
     /// What the innermost finish inside makes of a step.
-    fn collect(&mut self, inside: Inside<'a>, step: Step<'a>) -> Result<Met<'a>, AllocError>
-        ensures { IfOk result (λ met. (a : Eval) (n : ℕ) → Goes no_calls a n self.old.level step.entry → Moves no_calls (insides_of no_calls self.old.inside.items (inside_of no_calls inside.entry a)) (n + (insides_weight self.old.inside.items + (length inside.entry.outer.frames.items + 1))) self.new met) }
+    fn collect(&mut self, mut inside: Inside<'a>, step: Step<'a>) -> Result<Met<'a>, AllocError>
+        ensures { IfOk result (λ met. (a : Eval) (n : ℕ) → Goes no_calls a n self.old.level step.entry → Moves no_calls
+            (insides_of no_calls self.old.inside.items (inside_of no_calls inside.entry a))
+            (n + (insides_weight self.old.inside.items + (length inside.entry.outer.frames.items + 1))) self.new
+            met) }
     {
         match step {
             Step::Quiet => {
@@ -47,11 +52,13 @@ impl<'a> Machine<'a> {
                 Ok(Met::Quiet)
             }
             Step::Offer(x) => {
-                self.inside.push(inside.with_offer(x))?;
+                inside.tally.offer(x);
+                self.inside.push(inside)?;
                 Ok(Met::Quiet)
             }
             Step::Fault(code) => {
-                self.inside.push(inside.with_fault(code))?;
+                inside.tally.fault(code);
+                self.inside.push(inside)?;
                 Ok(Met::Quiet)
             }
             Step::Async(body) => {
@@ -59,9 +66,9 @@ impl<'a> Machine<'a> {
                 self.level.hold(body)?;
                 Ok(Met::Held)
             }
-            Step::Finish { kind, binds, body } => {
+            Step::Finish(finish) => {
                 self.inside.push(inside)?;
-                Ok(Met::Finish { kind, binds, body })
+                Ok(Met::Finish(finish))
             }
             Step::Over => {
                 self.close(inside)?;
@@ -74,78 +81,35 @@ impl<'a> Machine<'a> {
     fn close(&mut self, inside: Inside<'a>) -> Result<(), AllocError>
         ensures inside { self.new.inside ≡ self.old.inside }
         ensures frames { IfOk result (λ _. self.new.level.frames.items ≡ inside.entry.outer.frames.items) }
-        ensures now { IfOk result (λ _. now_of self.new.level ≡ quiet (settled (min inside.entry.fault (min no_fault (code_of (end_of self.old.level.flow self.old.level.vars.items)))) inside.entry.binds inside.entry.outer.vars.items inside.entry.gift)) }
+        ensures now { IfOk result (λ _. now_of self.new.level ≡ closed_inside inside.entry self.old.level) }
     {
         let Inside {
-            kind: _,
-            gift,
-            fault,
+            tally,
             binds,
+            line,
             outer,
         } = inside;
-        let fault = match self.level.flow {
-            Flow::Fault(code) => fault.min(code),
-            Flow::Fell => fault,
-        };
+        let given = with_end(tally, &self.level.flow).given();
         self.level = outer;
-        self.level.settle(fault, binds, gift)?;
+        self.level.settle(line, binds, given)?;
         Ok(())
     }
 }
 
-impl<'a> Inside<'a> {
-    fn with_offer(self, x: i64) -> Inside<'a>
-        ensures { result ≡ record self.entry { gift = join self.entry.kind self.entry.gift x } }
-    {
-        let Inside {
-            kind,
-            gift,
-            fault,
-            binds,
-            outer,
-        } = self;
-        Inside {
-            kind,
-            gift: kind.join(gift, x),
-            fault,
-            binds,
-            outer,
-        }
-    }
-
-    fn with_fault(self, code: u64) -> Inside<'a>
-        ensures { result ≡ record self.entry { fault = min self.entry.fault code } }
-    {
-        let Inside {
-            kind,
-            gift,
-            fault,
-            binds,
-            outer,
-        } = self;
-        Inside {
-            kind,
-            gift,
-            fault: fault.min(code),
-            binds,
-            outer,
-        }
-    }
-}
-
 impl<'a> Level<'a> {
-    /// Goes on behind a finish that ended with this fault, or `NO_FAULT`, and this gift.
-    pub fn settle(&mut self, fault: u64, binds: bool, gift: i64) -> Result<(), AllocError>
+    /// Goes on behind a finish at this line that gave this. The gift may be bound to a new name.
+    pub fn settle(&mut self, line: u32, binds: bool, given: Given) -> Result<(), AllocError>
         ensures frames { self.new.frames ≡ self.old.frames }
-        ensures now { IfOk result (λ _. now_of self.new ≡ quiet (settled fault binds self.old.vars.items gift)) }
+        ensures now { IfOk result (λ _. now_of self.new ≡ quiet
+            (finish_end line binds self.old.vars.items (ended given))) }
     {
-        if fault != NO_FAULT {
-            self.flow = Flow::Fault(fault);
+        if given.fault != NO_FAULT {
+            self.flow = Flow::Fault(given.fault);
             return Ok(());
         }
         self.flow = Flow::Fell;
         if binds {
-            self.vars.push(gift)?;
+            self.vars.push(given.gift)?;
         }
         Ok(())
     }
@@ -160,7 +124,20 @@ fn met_of<'a>(step: Step<'a>) -> Met<'a>
         Step::Offer(x) => Met::Offer(x),
         Step::Fault(code) => Met::Fault(code),
         Step::Async(body) => Met::Async(body),
-        Step::Finish { kind, binds, body } => Met::Finish { kind, binds, body },
+        Step::Finish(finish) => Met::Finish(finish),
         Step::Over => Met::Over,
     }
+}
+
+/// What a finish has collected whose block has ended so, where a fault of its own may stand.
+pub(crate) fn with_end(tally: Tally, flow: &Flow) -> Tally
+    ensures kind { result.kind ≡ tally.kind }
+    ensures total { (vars : List ℤ) → total_of result ≡ collected tally.kind (total_of tally)
+        (quiet (end_of flow.now vars)) }
+{
+    let mut tally = tally;
+    if let Flow::Fault(code) = flow {
+        tally.fault(*code);
+    }
+    tally
 }

@@ -1,13 +1,15 @@
+// Blocks, asyncs and finishes that begin to run inside.
+
 ghost use Rattle.std.specs.Prelude.{◌≡◌, ◌+◌, IfOk, length, []};
 ghost use Rattle.spd_elide.specs.Eval.{no_calls, quiet, Fell, async_of, eval_block};
 ghost use Rattle.spd_elide.specs.Leaves.{Leaves, moving};
 ghost use Rattle.spd_elide.specs.Left.{level_from, level_of, async_left, finish_left};
 ghost use Rattle.spd_elide.specs.Machine.{machine_of, machine_from, weight};
 
-use crate::frames::{Flow, Frame, Level};
+use crate::frames::{FinishAt, Flow, Frame, Level};
 use crate::insides::{Inside, Machine};
 use spd_check::CodeBlock;
-use spd_words::{FinishKind, NO_FAULT};
+use spd_words::Tally;
 use std::alloc::{AllocError, Global};
 use std::mem;
 
@@ -29,7 +31,8 @@ impl<'a> Level<'a> {
     /// Runs an async inside.
     pub fn hold(&mut self, body: &'a CodeBlock) -> Result<(), AllocError>
         ensures frames { IfOk result (λ _. length self.new.frames.items ≡ length self.old.frames.items + 2) }
-        ensures left { IfOk result (λ _. Leaves moving (level_from no_calls self.old (async_left no_calls body.now self.old.vars.items)) (level_of no_calls self.new)) }
+        ensures left { IfOk result (λ _. Leaves moving (level_from no_calls self.old
+            (async_left no_calls body.now self.old.vars.items)) (level_of no_calls self.new)) }
     {
         self.flow = Flow::Fell;
         let saved = copy_of(&self.vars)?;
@@ -49,7 +52,8 @@ impl<'a> Machine<'a> {
         block: &'a CodeBlock,
         vars: Vec<i64>,
     ) -> Result<Machine<'a>, AllocError>
-        ensures left { IfOk result (λ machine. machine_of no_calls machine ≡ async_of [] (eval_block no_calls block.now vars.items)) }
+        ensures left { IfOk result (λ machine. machine_of no_calls machine ≡ async_of []
+            (eval_block no_calls block.now vars.items)) }
         ensures frames { IfOk result (λ machine. weight machine ≡ 2) }
         ensures inside { IfOk result (λ machine. machine.inside.items ≡ []) }
     {
@@ -87,7 +91,8 @@ impl<'a> Machine<'a> {
 
     /// Runs an async inside.
     pub fn hold(&mut self, body: &'a CodeBlock) -> Result<(), AllocError>
-        ensures left { IfOk result (λ _. Leaves moving (machine_from no_calls self.old (async_left no_calls body.now self.old.level.vars.items)) (machine_of no_calls self.new)) }
+        ensures left { IfOk result (λ _. Leaves moving (machine_from no_calls self.old
+            (async_left no_calls body.now self.old.level.vars.items)) (machine_of no_calls self.new)) }
         ensures frames { IfOk result (λ _. weight self.new ≡ weight self.old + 2) }
     {
         self.level.hold(body)?;
@@ -95,23 +100,18 @@ impl<'a> Machine<'a> {
     }
 
     /// Runs a finish inside.
-    pub fn open(
-        &mut self,
-        kind: FinishKind,
-        binds: bool,
-        body: &'a CodeBlock,
-    ) -> Result<(), AllocError>
-        ensures left { IfOk result (λ _. Leaves moving (machine_from no_calls self.old (finish_left no_calls kind binds body.now self.old.level.vars.items)) (machine_of no_calls self.new)) }
+    pub fn open(&mut self, finish: FinishAt<'a>) -> Result<(), AllocError>
+        ensures left { IfOk result (λ _. Leaves moving (machine_from no_calls self.old
+            (finish_left no_calls finish.entry self.old.level.vars.items)) (machine_of no_calls self.new)) }
         ensures frames { IfOk result (λ _. weight self.new ≡ weight self.old + 2) }
     {
         let vars = copy_of(&self.level.vars)?;
-        let level = Level::of_block(body, vars)?;
+        let level = Level::of_block(finish.body, vars)?;
         let outer = mem::replace(&mut self.level, level);
         self.inside.push(Inside {
-            kind,
-            gift: kind.identity(),
-            fault: NO_FAULT,
-            binds,
+            tally: Tally::new(finish.kind),
+            binds: finish.binds,
+            line: finish.line,
             outer,
         })?;
         Ok(())

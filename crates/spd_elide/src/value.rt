@@ -1,3 +1,5 @@
+// The value of an expression.
+
 ghost use Rattle.std.specs.Prelude.{◌≡◌, ℕ, Ok, pos, slice_get, unwrap_or};
 ghost use Rattle.spd_elide.specs.Eval.{value};
 

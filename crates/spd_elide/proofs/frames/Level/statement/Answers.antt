@@ -1,6 +1,7 @@
 use Rattle.std.proofs.Common.{◌∙◌, ap, sym, true}
-use Rattle.spd_elide.specs.Eval.{no_calls, counted}
-use Rattle.spd_elide.specs.Left.{level_from, level_of, finish_left}
+use Rattle.spd_words.specs.declared.finish_kind.FinishKind.{FinishKind}
+use Rattle.spd_elide.specs.Eval.{no_calls, counted, moved, whole_finish, eval_block}
+use Rattle.spd_elide.specs.Left.{level_from, level_of}
 use Rattle.spd_elide.proofs.Blocks.{at_kind, kind_let, kind_let_finish, kind_async, kind_finish, kind_offer, kind_print}
 use Rattle.spd_elide.proofs.Statements.{counted_then, fallen}
 use Rattle.spd_elide.proofs.frames.Level.statement.Goals as goal
@@ -18,7 +19,7 @@ returns-in-LetFinish-clause-comes c =
     let vars = c.args.self.now.vars.items in
     let s = at_kind no_calls c.args.stmt.now _ vars c.in-LetFinish.is in (
       ap (level_from no_calls c.args.self.now) (s ∙ ap counted (kind_let_finish no_calls c.in-LetFinish.name c.in-LetFinish.kind c.in-LetFinish.body c.args.stmt.now.line vars)
-          ∙ ap (λ kind. finish_left no_calls kind true c.in-LetFinish.body vars) (sym c.kind_of.ensures)),
+          ∙ ap (λ (k : FinishKind). counted (moved (whole_finish k c.args.stmt.now.line true vars (eval_block no_calls c.in-LetFinish.body vars)))) (sym c.kind_of.ensures)),
       c.requires,
     )
 

@@ -12,13 +12,13 @@ returns-in_ok-push-in-Quiet c a n h =
 pub returns-in_ok-push-in-Offer : goal.returns-in_ok-push-in-Offer
 returns-in_ok-push-in-Offer c a n h =
     let e : FitsSigned w64 c.in-Offer.x = search rules in
-    offer_kept no_calls c.args.self.now.inside.items c.args.inside c.with_offer.result c.in-Offer.x a n (record { level = c.args.self.now.level; inside = c.push-in-Offer.new.self })
-    (rw (to_z-of_z w64 c.in-Offer.x e) at c.with_offer.ensures) c.in_ok-push-in-Offer.ensures.items (rw c.in-Offer.is at h)
+    offer_kept no_calls c.args.self.now.inside.items c.args.inside c.offer.new.self c.in-Offer.x a n (record { level = c.args.self.now.level; inside = c.push-in-Offer.new.self })
+    (rw (to_z-of_z w64 c.in-Offer.x e) at c.offer.ensures) c.in_ok-push-in-Offer.ensures.items (rw c.in-Offer.is at h)
 
 pub returns-in_ok-push-in-Fault : goal.returns-in_ok-push-in-Fault
 returns-in_ok-push-in-Fault c a n h =
-    fault_kept no_calls c.args.self.now.inside.items c.args.inside c.with_fault.result c.in-Fault.code a n (record { level = c.args.self.now.level; inside = c.push-in-Fault.new.self })
-    c.with_fault.ensures c.in_ok-push-in-Fault.ensures.items (rw c.in-Fault.is at h)
+    fault_kept no_calls c.args.self.now.inside.items c.args.inside c.fault.new.self c.in-Fault.code a n (record { level = c.args.self.now.level; inside = c.push-in-Fault.new.self })
+    c.fault.ensures c.in_ok-push-in-Fault.ensures.items (rw c.in-Fault.is at h)
 
 pub returns-in_ok-hold-in-Async : goal.returns-in_ok-hold-in-Async
 returns-in_ok-hold-in-Async c a n h =
@@ -28,7 +28,7 @@ returns-in_ok-hold-in-Async c a n h =
 
 pub returns-in_ok-push-in-Finish : goal.returns-in_ok-push-in-Finish
 returns-in_ok-push-in-Finish c a n h =
-    finish_kept no_calls c.args.self.now.inside.items c.args.inside a n (record { level = c.args.self.now.level; inside = c.push-in-Finish.new.self }) c.in-Finish.kind c.in-Finish.binds c.in-Finish.body
+    finish_kept no_calls c.args.self.now.inside.items c.args.inside a n (record { level = c.args.self.now.level; inside = c.push-in-Finish.new.self }) c.in-Finish.finish
     c.in_ok-push-in-Finish.ensures.items (rw c.in-Finish.is at h)
 
 pub returns-in_ok-close-in-Over : goal.returns-in_ok-close-in-Over
