@@ -1,15 +1,13 @@
 -- What is given is taken out of a promise.
-use Rattle.std.proofs.Common.{◌≡◌, ℕ, ◌+◌, List, [], ◌∷◌, ◌++◌, length, refl, sym, ◌∙◌, ap, arith, ℤ, min, true, take, slice_set, ◌-◌}
-use Rattle.std.proofs.lemmas.List.{length-append}
-use Rattle.std.proofs.Math.Seq.{take-append_seam, set-append_seam}
+use Rattle.std.proofs.Common.{◌≡◌, ℕ, ◌+◌, List, [], ◌∷◌, ◌++◌, refl, sym, ◌∙◌, ap, arith, ℤ, min}
 use Rattle.spd_words.specs.Gift.{no_fault, identity, join, gift, least}
-use Rattle.spd_words.specs.View.{Promise}
+use Rattle.spd_words.specs.Meaning.{Promise}
 use Rattle.spd_words.proofs.Joins.{gift-cons, gift-append, gift_is, least-append, least_le}
-use Rattle.spd_words.specs.declared.kinds.FinishKind.{FinishKind}
+use Rattle.spd_words.specs.declared.finish_kind.FinishKind.{FinishKind}
 use Rattle.spd_check.specs.declared.code.CodeBlock.{CodeBlock}
-use Rattle.spd_elide.specs.Eval.{Calls, End, Fell, Back, Fault, Eval, eval_block, async_of, end_codes, code_of, fault_of, job_result}
+use Rattle.spd_elide.specs.Eval.{CallMeaning, End, Fell, Back, Fault, Eval, eval_block, async_of, end_codes, end_code, fault_of, job_result}
 use Rattle.spd_elide.specs.Leaves.{Leaves, giving}
-use Rattle.spd_task.specs.Promised.{result_of, base, put}
+use Rattle.spd_task.specs.Task.{result_of}
 
 abbrev pub promise : ℤ → ℕ → ℕ → Promise
 promise g f m = record { gift = g; fault = f; moves = m }
@@ -22,6 +20,11 @@ pub offer_splits : (kind : FinishKind) (x : ℤ) (w : ℕ) (a b : Eval) → Leav
 offer_splits kind x w a b h =
     promises _ _ _ _ _ _ (ap (gift kind) h.offers ∙ gift-cons kind x b.offers) (ap least h.codes) (let m = h.moves in omega arith)
 
+pub fault_splits : (kind : FinishKind) (c w : ℕ) (a b : Eval) → Leaves (giving [] (c ∷ []) 0 w) a b →
+    result_of kind a ≡ promise (gift kind b.offers) (min c (least b.codes)) b.moves
+fault_splits kind c w a b h =
+    promises _ _ _ _ _ _ (ap (gift kind) h.offers) (ap least h.codes) (let m = h.moves in omega arith)
+
 -- the move of an async that runs inside
 pub held_splits : (kind : FinishKind) (w : ℕ) (a b : Eval) → Leaves (giving [] [] 1 w) a b →
     result_of kind a ≡ promise (join kind (identity kind) (gift kind b.offers)) (min no_fault (least b.codes)) (0 + b.moves + 1)
@@ -29,7 +32,7 @@ held_splits kind w a b h =
     let l = least_le b.codes in
     promises _ _ _ _ _ _ (ap (gift kind) h.offers ∙ sym (gift_is kind b.offers)) (ap least h.codes ∙ omega arith) (let m = h.moves in omega arith)
 
-by_end : (x : End) → least (end_codes x) ≡ code_of x
+by_end : (x : End) → least (end_codes x) ≡ end_code x
 by_end (Fell vars) = refl
 by_end (Back v) = refl
 by_end (Fault c) = refl
@@ -48,16 +51,5 @@ finish_splits kind m w a b h =
     promises _ _ _ _ _ _ (ap (gift kind) h.offers) (ap least h.codes) (let x = h.moves in omega arith)
 
 -- The task of a block promises the block's result.
-pub block_promises : (calls : Calls) (kind : FinishKind) (b : CodeBlock) (vars : List ℤ) → result_of kind (async_of [] (eval_block calls b vars)) ≡ job_result kind (eval_block calls b vars)
+pub block_promises : (calls : CallMeaning) (kind : FinishKind) (b : CodeBlock) (vars : List ℤ) → result_of kind (async_of [] (eval_block calls b vars)) ≡ job_result kind (eval_block calls b vars)
 block_promises calls kind b vars = promises _ _ _ _ _ _ refl (async_codes (eval_block calls b vars)) refl
-
--- ---- the place of a gift
-
-last_place : (vs : List ℤ) (x : ℤ) → length (vs ++ x ∷ []) - 1 ≡ length vs
-last_place vs x = omega (arith, length-append vs (x ∷ []))
-
-pub place_base : (vs : List ℤ) (x : ℤ) → base true (vs ++ x ∷ []) ≡ vs
-place_base vs x = ap (λ n. take n (vs ++ x ∷ [])) (last_place vs x) ∙ take-append_seam vs (x ∷ [])
-
-pub place_put : (vs : List ℤ) (x g : ℤ) → put true (vs ++ x ∷ []) g ≡ vs ++ g ∷ []
-place_put vs x g = ap (λ n. slice_set (vs ++ x ∷ []) n g) (last_place vs x) ∙ set-append_seam vs x [] g

@@ -1,2 +1,3 @@
-pub mod Promised
-pub mod Plain
+pub mod Task
+pub mod Dag
+pub mod DagSteps

@@ -1,13 +1,14 @@
-//! Tasks: work over a code that is cut into events, and its play on one thread.
+//! Tasks: jobs that are cut into events, and regions on one thread, which run any body.
 #![tactic(auto)]
 
-mod advancing;
-mod bodies;
-mod plain;
-mod regions;
-mod taking;
-mod tasks;
+mod body;
+mod dag;
+mod finish;
+mod outer;
+mod plain_regions;
+mod region;
+mod task;
 
-pub use plain::run_finish;
-pub use regions::PlainRegions;
-pub use tasks::Task;
+pub use plain_regions::PlainRegions;
+pub use region::{Region, run_within};
+pub use task::Task;
