@@ -38,6 +38,13 @@ pub record Calls : Type 0 where
   pub made : ℕ
   pub failing : List ℕ
 
+abbrev pub uncalled : Calls
+uncalled = record { made = 0; failing = [] }
+
+-- the same, where the call of this number is to fail too
+abbrev pub to_fail : Calls → ℕ → Calls
+to_fail calls call = record calls { failing = calls.failing ++ call ∷ [] }
+
 abbrev pub next_call : Calls → ℕ
 next_call calls = min (calls.made + 1) last_count
 
@@ -77,6 +84,15 @@ IsAnswer (Err other) expected = expected ≡ Err other
 abbrev pub failed_after : Result (Vec ℕ) ShelfFault → List (List ℕ) → List ℕ → List (List ℕ)
 failed_after (Err fault.Failed) failed name = failed ++ name ∷ []
 failed_after _ failed name = failed
+
+-- the shelf with one file more
+abbrev pub with_file : MemShelfState → List ℕ → List ℕ → MemShelfState
+with_file shelf name bytes = record shelf { files = record { name = name; bytes = bytes } ∷ shelf.files }
+
+-- the shelf after a read of this name that was answered so
+abbrev pub after_read : MemShelfState → Result (Vec ℕ) ShelfFault → List ℕ → MemShelfState
+after_read shelf answer name =
+    record shelf { calls = after_call shelf.calls; failed = failed_after answer shelf.failed name }
 
 -- ---- a sink in memory
 

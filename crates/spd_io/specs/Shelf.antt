@@ -41,8 +41,8 @@ abbrev pub KeepsFiles : ShelfState → ShelfState → Type 0
 KeepsFiles old new = (name : List ℕ) → StaysTold (old.file name) (new.file name)
 
 -- No count falls.
-abbrev pub KeepsFaults : ShelfState → ShelfState → Type 0
-KeepsFaults old new = (name : List ℕ) → old.faults name ≤ new.faults name
+abbrev pub ShelfKeepsFaults : ShelfState → ShelfState → Type 0
+ShelfKeepsFaults old new = (name : List ℕ) → old.faults name ≤ new.faults name
 
 -- No count but that of the name changes.
 abbrev pub ChangesNoOther : ShelfState → ShelfState → List ℕ → Type 0

@@ -21,5 +21,9 @@ abbrev pub Failed : SinkState → SinkState → Type 0
 Failed old new = Rose old.faults new.faults
 
 -- Its count doesn't fall.
-abbrev pub KeepsFaults : SinkState → SinkState → Type 0
-KeepsFaults old new = old.faults ≤ new.faults
+abbrev pub SinkKeepsFaults : SinkState → SinkState → Type 0
+SinkKeepsFaults old new = old.faults ≤ new.faults
+
+-- Its count is what it was.
+abbrev pub SameFaults : SinkState → SinkState → Type 0
+SameFaults old new = new.faults ≡ old.faults

@@ -1,5 +1,7 @@
+// Calls that are to fail, by their numbers.
+
 ghost use Rattle.std.specs.Prelude.{◌≡◌, [], ◌∷◌, ◌++◌, OnOk, OnErr};
-ghost use Rattle.spd_io.specs.Memory.{Calls, next_fails, after_call};
+ghost use Rattle.spd_io.specs.Memory.{Calls, uncalled, to_fail, next_fails, after_call};
 
 use spd_list::Seq;
 use std::alloc::{AllocError, Global};
@@ -21,7 +23,7 @@ impl Model for CallNumbers {
 impl CallNumbers {
     /// No calls yet, of which none is to fail.
     pub(crate) fn new(alloc: Global) -> CallNumbers
-        ensures { result ≡ record { made = 0; failing = [] } }
+        ensures { result ≡ uncalled }
     {
         CallNumbers {
             made: 0,
@@ -31,7 +33,7 @@ impl CallNumbers {
 
     /// The call of a number is to fail.
     pub(crate) fn fail_at(&mut self, call: u32) -> Result<(), AllocError>
-        ensures ok { OnOk result (self.new ≡ record self.old { failing = self.old.failing ++ call ∷ [] }) }
+        ensures ok { OnOk result (self.new ≡ to_fail self.old call) }
         ensures err { OnErr result (self.new ≡ self.old) }
     {
         self.failing.push(call)

@@ -1,3 +1,5 @@
+// Files in memory, by their names.
+
 ghost use Rattle.std.specs.Prelude.{◌≡◌, [], ◌∷◌, ◌++◌, MatchOption, OnOk, OnErr};
 ghost use Rattle.spd_io.specs.Shelf.{Missing, Holds};
 ghost use Rattle.spd_io.specs.Memory.{file_of};
@@ -30,7 +32,8 @@ pub(crate) fn add_file(
 
 /// The bytes of the file of a name, of several the first one's.
 pub(crate) fn find_file<'a>(mut files: &'a [NamedFile], name: &str) -> Option<&'a [u8]>
-    ensures { MatchOption result (file_of files.entry.now name.now ≡ Missing) (λ bytes. file_of files.entry.now name.now ≡ Holds bytes.now) }
+    ensures { MatchOption result (file_of files.entry.now name.now ≡ Missing)
+        (λ bytes. file_of files.entry.now name.now ≡ Holds bytes.now) }
 {
     while let [first, rest @ ..] = files {
         if first.name.as_slice() == name.as_bytes() {

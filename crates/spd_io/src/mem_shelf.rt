@@ -1,6 +1,9 @@
+// A shelf of files in memory.
+
 ghost use Rattle.std.specs.Prelude.{◌≡◌, ◌≤◌, ◌⊎◌, [], ◌∷◌, ◌++◌, IfOk, OnOk, OnErr, length};
-ghost use Rattle.spd_io.specs.Shelf.{MayBe, MayExceed, FailedAt, KeepsFiles, KeepsFaults, ChangesNoOther};
-ghost use Rattle.spd_io.specs.Memory.{MemShelfState, mem_shelf_state, read_of, IsAnswer, failed_after, after_call};
+ghost use Rattle.spd_io.specs.Shelf.{MayBe, MayExceed, FailedAt, KeepsFiles, ShelfKeepsFaults, ChangesNoOther};
+ghost use Rattle.spd_io.specs.Memory.{MemShelfState, mem_shelf_state, read_of, IsAnswer, failed_after};
+ghost use Rattle.spd_io.specs.Memory.{uncalled, to_fail, with_file, after_read};
 
 use crate::calls::CallNumbers;
 use crate::files::{NamedFile, add_file, find_file, note_failure};
@@ -27,7 +30,7 @@ impl Model for MemShelf {
 impl MemShelf {
     /// A shelf that holds nothing.
     pub fn new(alloc: Global) -> MemShelf
-        ensures { result ≡ record { files = []; calls = record { made = 0; failing = [] }; failed = [] } }
+        ensures { result ≡ record { files = []; calls = uncalled; failed = [] } }
     {
         MemShelf {
             files: Vec::new(alloc),
@@ -39,7 +42,7 @@ impl MemShelf {
     /// Adds a file, in place of an earlier one of that name. Where memory runs out, or the name or
     /// the file has more than 4,294,967,295 bytes, the shelf is unchanged.
     pub fn add(&mut self, alloc: Global, name: &str, bytes: &[u8]) -> Result<(), AllocError>
-        ensures ok { OnOk result (self.new ≡ record self.old { files = record { name = name.now; bytes = bytes.now } ∷ self.old.files }) }
+        ensures ok { OnOk result (self.new ≡ with_file self.old name.now bytes.now) }
         ensures err { OnErr result (self.new ≡ self.old) }
     {
         add_file(alloc, &mut self.files, name, bytes)
@@ -48,7 +51,7 @@ impl MemShelf {
     /// The read of a number is to fail. Reads are counted from 1, those that failed too. Where memory
     /// runs out the shelf is unchanged.
     pub fn fail_at(&mut self, call: u32) -> Result<(), AllocError>
-        ensures ok { OnOk result (self.new ≡ record self.old { calls = record self.old.calls { failing = self.old.calls.failing ++ call ∷ [] } }) }
+        ensures ok { OnOk result (self.new ≡ record self.old { calls = to_fail self.old.calls call }) }
         ensures err { OnErr result (self.new ≡ self.old) }
     {
         self.calls.fail_at(call)
@@ -72,14 +75,16 @@ impl Shelf for MemShelf {
     fn read(&mut self, alloc: Global, name: &str, limit: usize) -> Result<Vec<u8>, ShelfFault>
         ensures whole { IfOk result (λ file. MayBe ((mem_shelf_state self.old).file name.now) file.items) }
         ensures within { IfOk result (λ file. length file.items ≤ limit) }
-        ensures failed { result ≡ Err ShelfFault.Failed → FailedAt (mem_shelf_state self.old) (mem_shelf_state self.new) name.now }
-        ensures too_long { result ≡ Err ShelfFault.TooLong → MayExceed ((mem_shelf_state self.old).file name.now) limit }
+        ensures failed { result ≡ Err ShelfFault.Failed →
+            FailedAt (mem_shelf_state self.old) (mem_shelf_state self.new) name.now }
+        ensures too_long { result ≡ Err ShelfFault.TooLong →
+            MayExceed ((mem_shelf_state self.old).file name.now) limit }
         ensures files { KeepsFiles (mem_shelf_state self.old) (mem_shelf_state self.new) }
-        ensures counts { KeepsFaults (mem_shelf_state self.old) (mem_shelf_state self.new) }
+        ensures counts { ShelfKeepsFaults (mem_shelf_state self.old) (mem_shelf_state self.new) }
         ensures others { ChangesNoOther (mem_shelf_state self.old) (mem_shelf_state self.new) name.now }
         // Which answer comes, and what the shelf is then.
         ensures answer { IsAnswer result (read_of self.old name.now limit) }
-        ensures after { self.new ≡ record self.old { calls = after_call self.old.calls; failed = failed_after result self.old.failed name.now } }
+        ensures after { self.new ≡ after_read self.old result name.now }
     {
         if self.calls.count() {
             return Err(self.failure(alloc, name));

@@ -1,6 +1,8 @@
+// A sink in memory.
+
 ghost use Rattle.std.specs.Prelude.{◌≡◌, ◌≢◌, ◌≤◌, ◌<◌, [], ◌∷◌, ◌++◌, IfOk, OnOk, OnErr, length, take};
-ghost use Rattle.spd_io.specs.Sink.{Gets, Failed, KeepsFaults};
-ghost use Rattle.spd_io.specs.Memory.{MemSinkState, mem_sink_state, put_of, after_put};
+ghost use Rattle.spd_io.specs.Sink.{Gets, Failed, SinkKeepsFaults, SameFaults};
+ghost use Rattle.spd_io.specs.Memory.{MemSinkState, mem_sink_state, put_of, after_put, uncalled, to_fail};
 
 use crate::calls::CallNumbers;
 use crate::sink::{Sink, SinkFault};
@@ -31,7 +33,7 @@ impl Model for MemSink {
 impl MemSink {
     /// An empty sink with room for `room` bytes. Their memory is taken here: no put asks for any.
     pub fn new(alloc: Global, room: usize) -> Result<MemSink, AllocError>
-        ensures { IfOk result (λ sink. sink ≡ record { bytes = []; room = room; calls = record { made = 0; failing = [] }; faults = 0 }) }
+        ensures { IfOk result (λ sink. sink ≡ record { bytes = []; room = room; calls = uncalled; faults = 0 }) }
     {
         Ok(MemSink {
             bytes: Vec::with_capacity(alloc, room)?,
@@ -44,7 +46,7 @@ impl MemSink {
     /// The put of a number is to fail. Puts are counted from 1, those of an empty piece not at all.
     /// Where memory runs out the sink is unchanged.
     pub fn fail_at(&mut self, call: u32) -> Result<(), AllocError>
-        ensures ok { OnOk result (self.new ≡ record self.old { calls = record self.old.calls { failing = self.old.calls.failing ++ call ∷ [] } }) }
+        ensures ok { OnOk result (self.new ≡ record self.old { calls = to_fail self.old.calls call }) }
         ensures err { OnErr result (self.new ≡ self.old) }
     {
         self.calls.fail_at(call)
@@ -68,7 +70,8 @@ impl Sink for MemSink {
         ensures empty { piece.now ≡ [] → result ≡ Ok 0 }
         ensures failed { OnErr result (Failed (mem_sink_state self.old) (mem_sink_state self.new)) }
         ensures nothing { OnErr result (Gets (mem_sink_state self.old) (mem_sink_state self.new) []) }
-        ensures counts { KeepsFaults (mem_sink_state self.old) (mem_sink_state self.new) }
+        ensures counts { SinkKeepsFaults (mem_sink_state self.old) (mem_sink_state self.new) }
+        ensures kept { OnOk result (SameFaults (mem_sink_state self.old) (mem_sink_state self.new)) }
         // A piece is taken whole or not at all.
         ensures answer { piece.now ≢ [] → result ≡ put_of self.old piece.now }
         ensures after { piece.now ≢ [] → self.new ≡ after_put self.old piece.now }

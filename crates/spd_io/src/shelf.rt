@@ -1,5 +1,7 @@
+// Files that are read by their names.
+
 ghost use Rattle.std.specs.Prelude.{◌≡◌, ◌≤◌, IfOk, length};
-ghost use Rattle.spd_io.specs.Shelf.{ShelfState, MayBe, MayExceed, FailedAt, KeepsFiles, KeepsFaults, ChangesNoOther};
+ghost use Rattle.spd_io.specs.Shelf.{ShelfState, MayBe, MayExceed, FailedAt, KeepsFiles, ShelfKeepsFaults, ChangesNoOther};
 
 use std::alloc::Global;
 use thiserror::Error;
@@ -31,6 +33,6 @@ pub trait Shelf {
         ensures failed { result ≡ Err ShelfFault.Failed → FailedAt (state self.old) (state self.new) name.now }
         ensures too_long { result ≡ Err ShelfFault.TooLong → MayExceed ((state self.old).file name.now) limit }
         ensures files { KeepsFiles (state self.old) (state self.new) }
-        ensures counts { KeepsFaults (state self.old) (state self.new) }
+        ensures counts { ShelfKeepsFaults (state self.old) (state self.new) }
         ensures others { ChangesNoOther (state self.old) (state self.new) name.now };
 }

@@ -1,3 +1,5 @@
+// A shelf and a sink that never fail.
+
 ghost use Rattle.std.specs.Prelude.{◌≡◌, [], ◌∷◌, None, OnOk, OnErr, length};
 ghost use Rattle.spd_io.specs.Memory.{file_or_empty};
 

@@ -1,3 +1,5 @@
+// The shelves and sinks in memory, call by call.
+
 ghost use Rattle.spd_io.specs.Memory.{mem_sink_state};
 
 use super::*;

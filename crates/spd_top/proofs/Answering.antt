@@ -5,7 +5,7 @@ use Rattle.spd_io.specs.Sink.{SinkState}
 use Rattle.spd_check.specs.declared.code.CodeBlock.{CodeBlock}
 use Rattle.spd_top.specs.Meaning.{Writes}
 use Rattle.spd_top.specs.Serving.{Bytes, operand_of, of_file, Outcome, GetsOrFails, unread, Says, WantsMemory, Runs, ran, out_stopped, memory_stopped, Answer, as_defined, out_failed, err_failed, no_memory, no_more_memory}
-use Rattle.spd_top.proofs.Putting.{gets_nothing}
+use Rattle.spd_top.proofs.Putting.{takes_nothing}
 
 module _ (words : List Bytes) (shelf shelf' : ShelfState) (out err err' : SinkState) where
   abbrev answers : ℕ → Type 0
@@ -13,11 +13,11 @@ module _ (words : List Bytes) (shelf shelf' : ShelfState) (out err err' : SinkSt
 
   -- a status that is told by a line, with nothing for `out`
   pub said : (status : ℕ) (line : Bytes) (result : ℕ) → Outcome words shelf.file status [] line → status ≢ 4 → Says status err err' line result → answers result
-  said status line result outcome other (inl s) = rw s.0 (as_defined status [] line outcome (gets_nothing out) s.1)
-  said status line result outcome other (inr s) = rw s.0 (err_failed status [] line outcome other (gets_nothing out) s.1)
+  said status line result outcome other (inl s) = rw s.0 (as_defined status [] line outcome (takes_nothing out) s.1)
+  said status line result outcome other (inr s) = rw s.0 (err_failed status [] line outcome other (takes_nothing out) s.1)
 
   pub wanted : (result : ℕ) → WantsMemory err err' result → answers result
-  wanted result w = rw w.0 (no_memory (gets_nothing out) w.1)
+  wanted result w = rw w.0 (no_memory (takes_nothing out) w.1)
 
   pub said_or_wanted : (status : ℕ) (line : Bytes) (result : ℕ) → Outcome words shelf.file status [] line → status ≢ 4 → Says status err err' line result ⊎ WantsMemory err err' result → answers result
   said_or_wanted status line result outcome other (inl s) = said status line result outcome other s
@@ -25,7 +25,7 @@ module _ (words : List Bytes) (shelf shelf' : ShelfState) (out err err' : SinkSt
 
   -- a program that could not be read
   pub not_read : (name : Bytes) (result : ℕ) → operand_of words ≡ Some name → FailedAt shelf shelf' name → ((result ≡ 4) × GetsOrFails err err' (of_file name (codes "read failed"))) ⊎ WantsMemory err err' result → answers result
-  not_read name result operand failed (inl s) = rw s.0 (unread name operand failed (gets_nothing out) s.1)
+  not_read name result operand failed (inl s) = rw s.0 (unread name operand failed (takes_nothing out) s.1)
   not_read name result operand failed (inr w) = wanted result w
 
 -- a program that was run

@@ -1,3 +1,8 @@
+-- `serve_still`: `Answer`, by cases of the outcome. Answering, NotBuilt: which row it is. Runs, MainStatements, Putting:
+--   what main writes, statement by statement, and that `out` gets a front of it.
+-- `read`, both directions: Told.. (what is read is spelled so) up to ReadIsSpelled, and Spelled.. (what is spelled so is
+--   read) up to SpelledIsRead; Spelling puts them together. Symbols, Classes, Repeat, Depths serve both.
+-- Limits: Operators and Names count over the tokens. Numbers: the value of digits.
 pub mod Numbers
 pub mod Repeat
 pub mod Symbols

@@ -1,7 +1,7 @@
 -- What each statement of main writes, and how it ends.
 use Rattle.std.proofs.Common.{◌≡◌, ℕ, ℤ, List, [], ◌∷◌, ◌++◌, refl, ◌∙◌, ap, true, false, Ok, slice_get, Some}
 use Rattle.spd_words.specs.Gift.{gift}
-use Rattle.spd_words.specs.declared.kinds.FinishKind.TheVariants as kind
+use Rattle.spd_words.specs.declared.finish_kind.FinishKind.TheVariants as kind
 use Rattle.spd_syntax.specs.declared.tree.Collect.{Collect}
 use Rattle.spd_check.specs.declared.code.CodeExpr.{CodeExpr}
 use Rattle.spd_check.specs.declared.code.CodePrintPart.{CodePrintPart}
@@ -12,7 +12,7 @@ use Rattle.spd_check.specs.declared.code.CodeBlock.{CodeBlock, out-CodeBlock}
 use Rattle.spd_check.specs.Blocks.{itself, deeper}
 use Rattle.spd_elide.specs.Eval.{End, Fell, Eval, eval_stmt, eval_block, no_calls, value, with_value, counted, quiet, offered, collecting}
 use Rattle.spd_elide.proofs.Blocks.{at_kind, kind_let, kind_let_finish, kind_async, kind_finish, kind_offer}
-use Rattle.spd_elide.proofs.Faultless.{has_value, faultless_block, finish_end}
+use Rattle.spd_elide.proofs.Faultless.{has_value, faultless_block, finish_falls}
 use Rattle.spd_top.specs.Meaning.{Written, stmt_written, kind_written, line_written, parts_text}
 use Rattle.spd_top.specs.Running.{HasItsBlock}
 
@@ -38,13 +38,13 @@ module _ (stmt : CodeStmt) (vars : List ℤ) where
   unfolding out-CodeStmtKind denote.Hole.Carrier.out
   written_collecting name k body is =
       by_kind (code.LetFinish name k body) is refl _ (at_kind no_calls stmt (code.LetFinish name k body) vars is ∙ ap counted (kind_let_finish no_calls name k body stmt.line vars))
-      ∙ ap (λ (e : End). record { bytes = []; end = e }) (finish_end (collecting k) true vars (eval_block no_calls body vars) (faultless_block no_calls body vars))
+      ∙ ap (λ (e : End). record { bytes = []; end = e }) (finish_falls (collecting k) stmt.line true vars (eval_block no_calls body vars) (faultless_block no_calls body vars))
 
   pub written_finish : (body : CodeBlock) → stmt.what ≡ code.Finish body → stmt_written stmt vars ≡ silent vars
   unfolding out-CodeStmtKind denote.Hole.Carrier.out
   written_finish body is =
       by_kind (code.Finish body) is refl _ (at_kind no_calls stmt (code.Finish body) vars is ∙ ap counted (kind_finish no_calls body stmt.line vars))
-      ∙ ap (λ (e : End). record { bytes = []; end = e }) (finish_end kind.Plain false vars (eval_block no_calls body vars) (faultless_block no_calls body vars))
+      ∙ ap (λ (e : End). record { bytes = []; end = e }) (finish_falls kind.Plain stmt.line false vars (eval_block no_calls body vars) (faultless_block no_calls body vars))
 
   pub written_async : (body : CodeBlock) → stmt.what ≡ code.Async body → stmt_written stmt vars ≡ silent vars
   unfolding out-CodeStmtKind denote.Hole.Carrier.out

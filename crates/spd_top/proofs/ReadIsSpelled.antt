@@ -9,7 +9,7 @@ use Rattle.spd_syntax.specs.declared.tree.Program.{Program}
 use Rattle.spd_syntax.specs.Tokens.{word, Seen}
 use Rattle.spd_syntax.specs.Limits.{max_depth}
 use Rattle.spd_syntax.specs.Grammar.{Body, body_tokens, body_trees, last_line, main, Spells}
-use Rattle.spd_top.specs.Reading.{◌>>=◌, word_at, block_at, program_at}
+use Rattle.spd_top.specs.Reading.{◌>>=◌, word_at, read_block_at, program_at}
 use Rattle.spd_top.proofs.Classes.{then_told, words, word_told}
 use Rattle.spd_top.proofs.ToldStatements.{bodies, block_told}
 
@@ -23,8 +23,8 @@ whole l b = record { items = record { line = l; what = i.Main b.0 } ∷ []; last
 pub program_told : (ts : List Seen) → SpellsAny ts (program_at ts)
 unfolding program_at
 program_told ts =
-    then_told (words w.Main) SpellsAny (λ _. tt) ts (word_at w.Main ts) (λ m. block_at max_depth m.1 >>= λ b. cond (eqb (length b.1) 0) (Some (whole m.0 b.0)) None) (word_told w.Main ts)
-    (λ l _ r1. then_told (bodies max_depth) (λ r o. SpellsAny ((word w.Main, l) ∷ r) o) (λ _. tt) r1 (block_at max_depth r1) (λ b. cond (eqb (length b.1) 0) (Some (whole l b.0)) None) (block_told max_depth r1)
+    then_told (words w.Main) SpellsAny (λ _. tt) ts (word_at w.Main ts) (λ m. read_block_at max_depth m.1 >>= λ b. cond (eqb (length b.1) 0) (Some (whole m.0 b.0)) None) (word_told w.Main ts)
+    (λ l _ r1. then_told (bodies max_depth) (λ r o. SpellsAny ((word w.Main, l) ∷ r) o) (λ _. tt) r1 (read_block_at max_depth r1) (λ b. cond (eqb (length b.1) 0) (Some (whole l b.0)) None) (block_told max_depth r1)
     (λ b is r2. by_end l b is r2 (eqb (length r2) 0) refl))
   where
     by_end : (l : ℕ) (b : Body) → (bodies max_depth).Is b → (r : List Seen) (e : Bool) → eqb (length r) 0 ≡ e → SpellsAny ((word w.Main, l) ∷ body_tokens b r) (cond e (Some (whole l (body_trees b, last_line b))) None)

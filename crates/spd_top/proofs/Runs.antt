@@ -11,7 +11,7 @@ use Rattle.spd_check.specs.declared.code.CodeStmt.{CodeStmt}
 use Rattle.spd_check.specs.declared.code.CodeBlock.{CodeBlock, out-CodeBlock}
 use Rattle.spd_elide.specs.Eval.{End, Fell, Back, Fault, no_calls, value}
 use Rattle.spd_elide.proofs.Faultless.{has_value, faultless_stmt}
-use Rattle.spd_top.specs.Meaning.{Written, with_more, go_on, stmt_written, kind_written, line_written, written_from, parts_text, part_text, digits, FallsThrough, main_written, Writes}
+use Rattle.spd_top.specs.Meaning.{Written, with_more, written_on, stmt_written, kind_written, line_written, written_from, parts_text, part_text, digits, FallsThrough, main_written, Writes}
 use Rattle.spd_top.specs.Running.{Ran}
 use Rattle.spd_top.proofs.Putting.{gets_then, front_then, front_longer}
 
@@ -46,7 +46,7 @@ pub falls_through : (stmts : List CodeStmt) (vars : List ℤ) → FallsThrough (
 falls_through [] vars = tt
 falls_through (stmt ∷ stmts) vars =
     let h = falls_by (out-CodeStmtKind stmt.what) stmt vars in
-    subst (λ e. FallsThrough (go_on e (stmt_written stmt vars) (written_from stmts)).end) (sym h.1) (falls_through stmts h.0)
+    subst (λ e. FallsThrough (written_on e (stmt_written stmt vars) (written_from stmts)).end) (sym h.1) (falls_through stmts h.0)
 
 -- ---- what was put so far
 
@@ -67,15 +67,15 @@ module _ (whole : Written) (start now : SinkState) (vars : List ℤ) (stmt : Cod
   goes_on vars' ran = record {
     written = so_far.written ++ here.bytes;
     put = gets_then start now next so_far.written here.bytes so_far.put ran.1;
-    left = so_far.left ∙ ap (λ e. with_more so_far.written (go_on e here (written_from rest))) ran.0
+    left = so_far.left ∙ ap (λ e. with_more so_far.written (written_on e here (written_from rest))) ran.0
         ∙ ap (λ (z : List ℕ). record { bytes = z; end = (written_from rest vars').end }) (sym (append_assoc so_far.written here.bytes (written_from rest vars').bytes));
   }
 
   pub stops : GetsFront now next here.bytes → GetsFront start next whole.bytes
   stops front =
-      rw so_far.left (front_then start now next so_far.written (go_on here.end here (written_from rest)).bytes so_far.put (longer here.end))
+      rw so_far.left (front_then start now next so_far.written (written_on here.end here (written_from rest)).bytes so_far.put (longer here.end))
     where
-      longer : (e : End) → GetsFront now next (go_on e here (written_from rest)).bytes
+      longer : (e : End) → GetsFront now next (written_on e here (written_from rest)).bytes
       longer (Fell vars') = front_longer now next here.bytes (written_from rest vars').bytes front
       longer (Back value) = front
       longer (Fault code) = front

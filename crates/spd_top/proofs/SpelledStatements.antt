@@ -8,7 +8,7 @@ use Rattle.spd_syntax.specs.declared.tree.Collect.TheVariants as c
 use Rattle.spd_syntax.specs.declared.tree.Stmt.{Stmt}
 use Rattle.spd_syntax.specs.Tokens.{word, mark, Seen}
 use Rattle.spd_syntax.specs.Grammar.{operator_mark, Expression, literal, variable, binary, expression_tokens, part_tree, parts_tokens, collect_word, Statement, binding, collecting, beginning, finishing, offering, printing, IsStatement, statement_tokens, statement_tree, StatementWithin, Body, body, IsBody, body_tokens, body_trees, last_line, BodyWithin, Statements, no_statements, next, AreStatements, statements_tokens, statements_trees, StatementsWithin}
-use Rattle.spd_top.specs.Reading.{◌>>=◌, Reader, same_word, same_mark, is_word, next_is, repeat, printing_at, binding_at, offering_at, collect_at, is_inside, collecting_at, naming_at, beginning_at, finishing_at, statement_at, next_statement_at, statements_at, braced_at, block_at}
+use Rattle.spd_top.specs.Reading.{◌>>=◌, Reader, same_word, same_mark, is_word, next_is, repeat, printing_at, binding_at, offering_at, collect_at, is_inside, collecting_at, naming_at, beginning_at, finishing_at, statement_at, next_statement_at, statements_at, braced_at, read_block_at}
 use Rattle.spd_top.proofs.SpelledExpressions.{Stops, stopped, expression_length, expression_reads, part_reads, part_length, parts_within, parts_length, parts_stop, parts_read}
 
 -- ---- lengths
@@ -96,7 +96,7 @@ module _ (depth : ℕ) (block : Reader (List Stmt × ℕ)) (reads : (b : Body) (
 
 -- ---- blocks
 
-pub block_reads : (depth : ℕ) (b : Body) (r : List Seen) → IsBody b → BodyWithin depth b → block_at depth (body_tokens b r) ≡ Some ((body_trees b, last_line b), r)
-unfolding block_at
+pub block_reads : (depth : ℕ) (b : Body) (r : List Seen) → IsBody b → BodyWithin depth b → read_block_at depth (body_tokens b r) ≡ Some ((body_trees b, last_line b), r)
+unfolding read_block_at
 block_reads zero (body l xs l') r is within = absurd within
-block_reads (suc depth) (body l xs l') r is within = braced_reads depth (block_at depth) (λ b s b_is b_within. block_reads depth b s b_is b_within) l xs l' r is within
+block_reads (suc depth) (body l xs l') r is within = braced_reads depth (read_block_at depth) (λ b s b_is b_within. block_reads depth b s b_is b_within) l xs l' r is within

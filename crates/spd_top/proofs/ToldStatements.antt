@@ -9,7 +9,7 @@ use Rattle.spd_syntax.specs.declared.tree.StmtKind.TheVariants as s
 use Rattle.spd_syntax.specs.declared.tree.Stmt.{Stmt}
 use Rattle.spd_syntax.specs.Tokens.{Symbol, name, word, mark, Seen}
 use Rattle.spd_syntax.specs.Grammar.{expression_tokens, expression_tree, part_tokens, part_tree, parts_tokens, parts_trees, collect_word, Statement, binding, collecting, beginning, finishing, offering, printing, IsStatement, statement_tokens, statement_tree, StatementWithin, Body, body, IsBody, body_tokens, body_trees, last_line, BodyWithin, Statements, no_statements, next, AreStatements, statements_tokens, statements_trees, StatementsWithin}
-use Rattle.spd_top.specs.Reading.{◌>>=◌, Reader, is_word, next_is, word_at, mark_at, name_at, repeat, expression_at, part_at, parts_at, printing_at, binding_at, offering_at, collect_from, collect_at, is_inside, collecting_at, naming_at, beginning_at, finishing_at, statement_from, statement_at, next_statement_at, statements_at, braced_at, block_at}
+use Rattle.spd_top.specs.Reading.{◌>>=◌, Reader, is_word, next_is, word_at, mark_at, name_at, repeat, expression_at, part_at, parts_at, printing_at, binding_at, offering_at, collect_from, collect_at, is_inside, collecting_at, naming_at, beginning_at, finishing_at, statement_from, statement_at, next_statement_at, statements_at, braced_at, read_block_at}
 use Rattle.spd_top.proofs.Classes.{Class, Told, then_told, words, marks, names, word_told, mark_told, name_told}
 use Rattle.spd_top.proofs.ToldExpressions.{expressions, expression_told, parts, part_told, parts_after, parts_told}
 
@@ -151,7 +151,7 @@ module _ (depth : ℕ) (block : Reader (List Stmt × ℕ)) (told : (ts : List Se
 
 -- ---- blocks
 
-pub block_told : (depth : ℕ) (ts : List Seen) → Told (bodies depth) ts (block_at depth ts)
-unfolding block_at
+pub block_told : (depth : ℕ) (ts : List Seen) → Told (bodies depth) ts (read_block_at depth ts)
+unfolding read_block_at
 block_told zero ts = tt
-block_told (suc depth) ts = braced_told depth (block_at depth) (λ r. block_told depth r) ts
+block_told (suc depth) ts = braced_told depth (read_block_at depth) (λ r. block_told depth r) ts

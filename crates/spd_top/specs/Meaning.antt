@@ -51,15 +51,15 @@ stmt_written stmt vars = kind_written (out-CodeStmtKind stmt.what) stmt vars
 abbrev pub with_more : List ℕ → Written → Written
 with_more bytes more = record { bytes = bytes ++ more.bytes; end = more.end }
 
-abbrev pub go_on : End → Written → (List ℤ → Written) → Written
-go_on (Fell vars) written next = with_more written.bytes (next vars)
-go_on (Back value) written next = written
-go_on (Fault code) written next = written
+abbrev pub written_on : End → Written → (List ℤ → Written) → Written
+written_on (Fell vars) written next = with_more written.bytes (next vars)
+written_on (Back value) written next = written
+written_on (Fault code) written next = written
 
 -- what statements write over the values of the visible names
 abbrev pub written_from : List CodeStmt → List ℤ → Written
 written_from [] vars = record { bytes = []; end = Fell vars }
-written_from (stmt ∷ stmts) vars = let written = stmt_written stmt vars in go_on written.end written (written_from stmts)
+written_from (stmt ∷ stmts) vars = let written = stmt_written stmt vars in written_on written.end written (written_from stmts)
 
 abbrev pub FallsThrough : End → Type 0
 FallsThrough (Fell vars) = Unit {0}

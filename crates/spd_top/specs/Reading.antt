@@ -39,9 +39,9 @@ Fails errors.NoMemory read = Unit {0}
 Fails errors.NotBuilt read = read ≡ None
 
 -- What a function returned, seen by view, is what reading gives, unless memory ran out.
-abbrev pub Gives : {X Y : Type 0} → (X → Y) → Result X ReadError → Option Y → Type 0
-Gives view (Ok x) read = read ≡ Some (view x)
-Gives view (Err error) read = Fails error read
+abbrev pub ReaderGives : {X Y : Type 0} → (X → Y) → Result X ReadError → Option Y → Type 0
+ReaderGives view (Ok x) read = read ≡ Some (view x)
+ReaderGives view (Err error) read = Fails error read
 
 abbrev pub all_seen : List ℕ → List Token → List Seen
 all_seen text tokens = map (seen text) tokens
@@ -226,9 +226,9 @@ module _ (block : Reader (List Stmt × ℕ)) where
     Some ((body.0, close.0), close.1)
 
 -- a block in which at most so many braces are open at once
-unfoldable pub block_at : ℕ → Reader (List Stmt × ℕ)
-block_at zero ts = None
-block_at (suc depth) ts = braced_at (block_at depth) ts
+unfoldable pub read_block_at : ℕ → Reader (List Stmt × ℕ)
+read_block_at zero ts = None
+read_block_at (suc depth) ts = braced_at (read_block_at depth) ts
 
 -- ---- programs
 
@@ -236,5 +236,5 @@ block_at (suc depth) ts = braced_at (block_at depth) ts
 unfoldable pub program_at : List Seen → Option Program
 program_at ts = do
   main ← word_at w.Main ts
-  body ← block_at max_depth main.1
+  body ← read_block_at max_depth main.1
   if length body.1 == 0 then Some (record { items = record { line = main.0; what = i.Main body.0.0 } ∷ []; last_line = body.0.1 }) else None

@@ -2,7 +2,7 @@
 use Rattle.std.specs.Prelude.{◌≡◌, ◌≢◌, ℕ, ◌≤◌, Bool, false, not, ◌&&◌, ◌==◌, if◌then◌else◌, List, [], ◌∷◌, ◌++◌, length, Option, Some, None, codes, ◌⊎◌}
 use Rattle.std.specs.Str.{bytes_eq}
 use Rattle.spd_io.specs.Shelf.{FileTold, Missing, MayBe, MayExceed, ShelfState, FailedAt}
-use Rattle.spd_io.specs.Sink.{SinkState, Gets, GetsFront, Failed}
+use Rattle.spd_io.specs.Sink.{SinkState, Gets, GetsFront, Failed, SameFaults}
 use Rattle.spd_syntax.specs.declared.tree.Program.{Program}
 use Rattle.spd_syntax.specs.Limits.{max_text}
 use Rattle.spd_check.specs.declared.code.CodeBlock.{CodeBlock}
@@ -57,17 +57,25 @@ pub data Outcome (words : List Bytes) (file : Bytes → FileTold) : ℕ → Byte
 
 -- ---- the answer
 
+-- A sink got the bytes without a fault.
+abbrev pub Takes : SinkState → SinkState → Bytes → Type 0
+Takes old new bytes = Gets old new bytes × SameFaults old new
+
+-- A sink got the first of the bytes, up to some place, without a fault.
+abbrev pub TakesFront : SinkState → SinkState → Bytes → Type 0
+TakesFront old new bytes = GetsFront old new bytes × SameFaults old new
+
 -- A sink failed, and got the first of the bytes.
 abbrev pub FailsIn : SinkState → SinkState → Bytes → Type 0
 FailsIn old new bytes = Failed old new × GetsFront old new bytes
 
--- A sink got the bytes, or failed in them.
+-- A sink got the bytes without a fault, or failed in them.
 abbrev pub GetsOrFails : SinkState → SinkState → Bytes → Type 0
-GetsOrFails old new bytes = Gets old new bytes ⊎ FailsIn old new bytes
+GetsOrFails old new bytes = Takes old new bytes ⊎ FailsIn old new bytes
 
 -- A status was told by its line, or is 5 where the sink failed in the line.
 abbrev pub Says : ℕ → SinkState → SinkState → Bytes → ℕ → Type 0
-Says status old new line result = ((result ≡ status) × Gets old new line) ⊎ ((result ≡ 5) × FailsIn old new line)
+Says status old new line result = ((result ≡ status) × Takes old new line) ⊎ ((result ≡ 5) × FailsIn old new line)
 
 -- The answer is 7, for want of memory.
 abbrev pub WantsMemory : SinkState → SinkState → ℕ → Type 0
@@ -75,26 +83,26 @@ WantsMemory old new result = (result ≡ 7) × GetsOrFails old new out_of_memory
 
 -- What a run of a program wrote, by the code of its main, and its status.
 pub data Runs (main : CodeBlock) (out out' err err' : SinkState) : ℕ → Type 0 where
-  ran : (bytes : Bytes) → Writes main bytes → Gets out out' bytes → Gets err err' [] → Runs main out out' err err' 0
+  ran : (bytes : Bytes) → Writes main bytes → Takes out out' bytes → Takes err err' [] → Runs main out out' err err' 0
   out_stopped : (bytes : Bytes) → Writes main bytes → FailsIn out out' bytes → GetsOrFails err err' write_failed → Runs main out out' err err' 5
-  memory_stopped : (bytes : Bytes) → Writes main bytes → GetsFront out out' bytes → GetsOrFails err err' out_of_memory → Runs main out out' err err' 7
+  memory_stopped : (bytes : Bytes) → Writes main bytes → TakesFront out out' bytes → GetsOrFails err err' out_of_memory → Runs main out out' err err' 7
 
 -- What was answered, by what shelf, `out` and `err` were before and after.
 pub data Answer (words : List Bytes) (shelf shelf' : ShelfState) (out out' err err' : SinkState) : ℕ → Type 0 where
   -- the outcome
-  as_defined : (status : ℕ) (bytes line : Bytes) → Outcome words shelf.file status bytes line → Gets out out' bytes → Gets err err' line
+  as_defined : (status : ℕ) (bytes line : Bytes) → Outcome words shelf.file status bytes line → Takes out out' bytes → Takes err err' line
       → Answer words shelf shelf' out out' err err' status
   -- The program's file could not be read.
-  unread : (name : Bytes) → operand_of words ≡ Some name → FailedAt shelf shelf' name → Gets out out' [] → GetsOrFails err err' (of_file name (codes "read failed"))
+  unread : (name : Bytes) → operand_of words ≡ Some name → FailedAt shelf shelf' name → Takes out out' [] → GetsOrFails err err' (of_file name (codes "read failed"))
       → Answer words shelf shelf' out out' err err' 4
   -- `out` failed in the bytes of the outcome.
   out_failed : (status : ℕ) (bytes line : Bytes) → Outcome words shelf.file status bytes line → FailsIn out out' bytes → GetsOrFails err err' write_failed
       → Answer words shelf shelf' out out' err err' 5
   -- `err` failed in the line of the outcome, which isn't that of a file that could not be read.
-  err_failed : (status : ℕ) (bytes line : Bytes) → Outcome words shelf.file status bytes line → status ≢ 4 → Gets out out' bytes → FailsIn err err' line
+  err_failed : (status : ℕ) (bytes line : Bytes) → Outcome words shelf.file status bytes line → status ≢ 4 → Takes out out' bytes → FailsIn err err' line
       → Answer words shelf shelf' out out' err err' 5
   -- Memory ran out before anything was put to `out`.
-  no_memory : Gets out out' [] → GetsOrFails err err' out_of_memory → Answer words shelf shelf' out out' err err' 7
+  no_memory : Takes out out' [] → GetsOrFails err err' out_of_memory → Answer words shelf shelf' out out' err err' 7
   -- Memory ran out when `out` had got the first of the bytes of the outcome.
-  no_more_memory : (status : ℕ) (bytes line : Bytes) → Outcome words shelf.file status bytes line → GetsFront out out' bytes → GetsOrFails err err' out_of_memory
+  no_more_memory : (status : ℕ) (bytes line : Bytes) → Outcome words shelf.file status bytes line → TakesFront out out' bytes → GetsOrFails err err' out_of_memory
       → Answer words shelf shelf' out out' err err' 7

@@ -1,3 +1,5 @@
+// From a text to the code of its program.
+
 ghost use Rattle.std.specs.Prelude.{◌≡◌, IfOk};
 ghost use Rattle.spd_syntax.specs.declared.tree.Program.{Program};
 ghost use Rattle.spd_top.specs.Built.{IsBuilt, HasCode};
@@ -8,8 +10,11 @@ use spd_check::{Code, check};
 use spd_syntax::lex;
 use std::alloc::Global;
 
-/// The code of the program that a text spells, if it keeps the limits and passes the checks.
-pub(crate) fn build(alloc: Global, text: &[u8]) -> Result<Code, ReadError>
+/// The code of the program that a text spells.
+///
+/// `NotBuilt` comes exactly where it spells none that keeps the limits and passes the checks;
+/// `NoMemory` where memory runs out.
+pub fn build(alloc: Global, text: &[u8]) -> Result<Code, ReadError>
     ensures built { IfOk result (λ code. HasCode text.now code) }
     ensures none { result ≡ Err ReadError.NotBuilt → (program : Program) → IsBuilt text.now program → ⊥ }
 {

@@ -1,6 +1,8 @@
+// Reading expressions.
+
 ghost use Rattle.std.specs.Prelude.{◌≡◌, true, false, length, MatchOption, pos, nat_le};
 ghost use Rattle.spd_syntax.specs.Grammar.{value_of, greatest_literal};
-ghost use Rattle.spd_top.specs.Reading.{Gives, all_seen, primary_at, term_at, terms_at, expression_at};
+ghost use Rattle.spd_top.specs.Reading.{ReaderGives, all_seen, primary_at, term_at, terms_at, expression_at};
 
 use crate::reading::ReadError;
 use crate::tokens::{Read, is_mark, mark, text_of};
@@ -10,7 +12,8 @@ use std::alloc::Global;
 
 /// The value of digits, if it is a literal's.
 fn literal(digits: &[u8]) -> Option<i64>
-    ensures { MatchOption result (nat_le (value_of digits.now) greatest_literal ≡ false) (λ v. (v ≡ pos (value_of digits.now)) × (nat_le (value_of digits.now) greatest_literal ≡ true)) }
+    ensures { MatchOption result (nat_le (value_of digits.now) greatest_literal ≡ false)
+        (λ v. (v ≡ pos (value_of digits.now)) × (nat_le (value_of digits.now) greatest_literal ≡ true)) }
 {
     let mut value: u64 = 0;
     for digit in digits {
@@ -22,7 +25,7 @@ fn literal(digits: &[u8]) -> Option<i64>
 
 #[tactic(auto, unfolding(crate::specs::Reading::primary_at))]
 fn primary<'a>(alloc: Global, text: &[u8], tokens: &'a [Token]) -> Read<'a, Expr>
-    ensures { Gives (λ x. (x.0, all_seen text.now x.1.now)) result (primary_at (all_seen text.now tokens.now)) }
+    ensures { ReaderGives (λ x. (x.0, all_seen text.now x.1.now)) result (primary_at (all_seen text.now tokens.now)) }
 {
     match tokens {
         [token, rest @ ..] => match token.kind {
@@ -43,7 +46,7 @@ fn primary<'a>(alloc: Global, text: &[u8], tokens: &'a [Token]) -> Read<'a, Expr
 /// Reads an operator with its right operand.
 #[tactic(auto, unfolding(crate::specs::Reading::term_at))]
 fn term<'a>(alloc: Global, text: &[u8], left: Expr, tokens: &'a [Token]) -> Read<'a, Expr>
-    ensures { Gives (λ x. (x.0, all_seen text.now x.1.now)) result (term_at left (all_seen text.now tokens.now)) }
+    ensures { ReaderGives (λ x. (x.0, all_seen text.now x.1.now)) result (term_at left (all_seen text.now tokens.now)) }
 {
     let (_, rest) = mark(tokens, Mark::Plus)?;
     let (right, rest) = primary(alloc, text, rest)?;
@@ -53,7 +56,8 @@ fn term<'a>(alloc: Global, text: &[u8], left: Expr, tokens: &'a [Token]) -> Read
 }
 
 fn terms<'a>(alloc: Global, text: &[u8], first: Expr, tokens: &'a [Token]) -> Read<'a, Expr>
-    ensures { Gives (λ x. (x.0, all_seen text.now x.1.now)) result (terms_at (length tokens.now) first (all_seen text.now tokens.now)) }
+    ensures { ReaderGives (λ x. (x.0, all_seen text.now x.1.now)) result
+        (terms_at (length tokens.now) first (all_seen text.now tokens.now)) }
 {
     let mut left = first;
     let mut rest = tokens;
@@ -74,7 +78,8 @@ fn terms<'a>(alloc: Global, text: &[u8], first: Expr, tokens: &'a [Token]) -> Re
 
 #[tactic(auto, unfolding(crate::specs::Reading::expression_at))]
 pub(crate) fn expression<'a>(alloc: Global, text: &[u8], tokens: &'a [Token]) -> Read<'a, Expr>
-    ensures { Gives (λ x. (x.0, all_seen text.now x.1.now)) result (expression_at (all_seen text.now tokens.now)) }
+    ensures { ReaderGives (λ x. (x.0, all_seen text.now x.1.now)) result
+        (expression_at (all_seen text.now tokens.now)) }
 {
     let (first, rest) = primary(alloc, text, tokens)?;
     terms(alloc, text, first, rest)

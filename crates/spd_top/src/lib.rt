@@ -14,13 +14,8 @@ mod telling;
 mod tokens;
 mod words;
 
+pub use building::build;
+pub use reading::{ReadError, read};
 pub use serving::serve_still;
 pub use telling::{out_of_memory, refuse_words};
 pub use words::Words;
-
-#[cfg(test)]
-mod finish_tests;
-#[cfg(test)]
-mod tests;
-#[cfg(test)]
-mod ways_tests;

@@ -1,3 +1,5 @@
+// The limits that are counted over tokens, before any tree is built.
+
 ghost use Rattle.std.specs.Prelude.{◌≡◌, ◌≤◌, ◌↔◌, ℕ, List, IsTrue, IfSome};
 ghost use Rattle.spd_syntax.specs.Tokens.{seen};
 ghost use Rattle.spd_syntax.specs.Limits.{KeepsOperators, KeepsNames, is_operator_mark, ends_stretch_mark, is_let};

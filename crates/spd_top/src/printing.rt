@@ -1,6 +1,8 @@
+// Reading prints.
+
 ghost use Rattle.std.specs.Prelude.{◌≡◌, length, [], ◌∷◌, IfOk};
 ghost use Rattle.spd_syntax.specs.Grammar.{unquoted};
-ghost use Rattle.spd_top.specs.Reading.{Gives, all_seen, part_at, next_part_at, parts_at, printing_at};
+ghost use Rattle.spd_top.specs.Reading.{ReaderGives, all_seen, part_at, next_part_at, parts_at, printing_at};
 
 use crate::expressions::expression;
 use crate::reading::ReadError;
@@ -33,7 +35,7 @@ fn unquoted(alloc: Global, text: &[u8]) -> Result<Lit, AllocError>
 
 #[tactic(auto, unfolding(crate::specs::Reading::part_at))]
 fn part<'a>(alloc: Global, text: &[u8], tokens: &'a [Token]) -> Read<'a, PrintPart>
-    ensures { Gives (λ x. (x.0, all_seen text.now x.1.now)) result (part_at (all_seen text.now tokens.now)) }
+    ensures { ReaderGives (λ x. (x.0, all_seen text.now x.1.now)) result (part_at (all_seen text.now tokens.now)) }
 {
     match tokens {
         [token, rest @ ..] => match token.kind {
@@ -53,7 +55,8 @@ fn part<'a>(alloc: Global, text: &[u8], tokens: &'a [Token]) -> Read<'a, PrintPa
 /// Reads a comma and a part, which it adds to those that were found.
 #[tactic(auto, unfolding(crate::specs::Reading::next_part_at))]
 fn next_part<'a>(alloc: Global, text: &[u8], found: Parts, tokens: &'a [Token]) -> Read<'a, Parts>
-    ensures { Gives (λ x. (x.0, all_seen text.now x.1.now)) result (next_part_at found (all_seen text.now tokens.now)) }
+    ensures { ReaderGives (λ x. (x.0, all_seen text.now x.1.now)) result
+        (next_part_at found (all_seen text.now tokens.now)) }
 {
     let mut found = found;
     let (_, rest) = mark(tokens, Mark::Comma)?;
@@ -64,7 +67,8 @@ fn next_part<'a>(alloc: Global, text: &[u8], found: Parts, tokens: &'a [Token]) 
 
 /// Reads the parts behind the first one.
 fn parts<'a>(alloc: Global, text: &[u8], first: PrintPart, tokens: &'a [Token]) -> Read<'a, Parts>
-    ensures { Gives (λ x. (x.0, all_seen text.now x.1.now)) result (parts_at (length tokens.now) (first ∷ []) (all_seen text.now tokens.now)) }
+    ensures { ReaderGives (λ x. (x.0, all_seen text.now x.1.now)) result
+        (parts_at (length tokens.now) (first ∷ []) (all_seen text.now tokens.now)) }
 {
     let mut found = Parts::new(alloc);
     found.push(first)?;
@@ -92,7 +96,8 @@ pub(crate) fn printing<'a>(
     line: u32,
     tokens: &'a [Token],
 ) -> Read<'a, Stmt>
-    ensures { Gives (λ x. (x.0, all_seen text.now x.1.now)) result (printing_at line (all_seen text.now tokens.now)) }
+    ensures { ReaderGives (λ x. (x.0, all_seen text.now x.1.now)) result
+        (printing_at line (all_seen text.now tokens.now)) }
 {
     let (first, rest) = part(alloc, text, tokens)?;
     let (parts, rest) = parts(alloc, text, first, rest)?;

@@ -1,9 +1,11 @@
+// Reading a program, and why one is not built.
+
 ghost use Rattle.std.specs.Prelude.{◌≡◌, ◌≢◌, IfOk};
 ghost use Rattle.spd_syntax.specs.Grammar.{Spells};
 ghost use Rattle.spd_syntax.specs.declared.tree.Program.{Program};
 ghost use Rattle.spd_syntax.specs.declared.lexing.LexKind.TheVariants as LexKind;
 ghost use Rattle.spd_check.specs.declared.faults.CheckKind.TheVariants as CheckKind;
-ghost use Rattle.spd_top.specs.Reading.{Gives, all_seen, program_at};
+ghost use Rattle.spd_top.specs.Reading.{ReaderGives, all_seen, program_at};
 ghost use Rattle.spd_top.specs.declared.reading.ReadError.TheVariants.{NoMemory, NotBuilt};
 
 use crate::limits::MAX_DEPTH;
@@ -62,7 +64,7 @@ impl From<CheckFault> for ReadError {
 /// Reads main, behind which no token is left.
 #[tactic(auto, unfolding(crate::specs::Reading::program_at))]
 fn program(alloc: Global, text: &[u8], tokens: &[Token]) -> Result<Program, ReadError>
-    ensures { Gives (λ x. x) result (program_at (all_seen text.now tokens.now)) }
+    ensures { ReaderGives (λ x. x) result (program_at (all_seen text.now tokens.now)) }
 {
     let (line, rest) = word(tokens, Word::Main)?;
     let ((body, last_line), rest) = block(alloc, text, MAX_DEPTH, rest)?;
@@ -75,11 +77,15 @@ fn program(alloc: Global, text: &[u8], tokens: &[Token]) -> Result<Program, Read
     Ok(Program { items, last_line })
 }
 
-/// The program that all of the tokens spell.
-pub(crate) fn read(alloc: Global, text: &[u8], tokens: &[Token]) -> Result<Program, ReadError>
+/// The program that all of the tokens of a text spell, within the limits on braces.
+///
+/// `NotBuilt` comes exactly where they spell none; `NoMemory` where memory runs out.
+pub fn read(alloc: Global, text: &[u8], tokens: &[Token]) -> Result<Program, ReadError>
     ensures found { IfOk result (λ program. Spells (all_seen text.now tokens.now) program) }
-    ensures only { IfOk result (λ program. (other : Program) → Spells (all_seen text.now tokens.now) other → other ≡ program) }
-    ensures none { result ≡ Err ReadError.NotBuilt → (program : Program) → Spells (all_seen text.now tokens.now) program → ⊥ }
+    ensures only { IfOk result (λ program. (other : Program) → Spells (all_seen text.now tokens.now) other → other ≡
+        program) }
+    ensures none { result ≡ Err ReadError.NotBuilt → (program : Program) → Spells (all_seen text.now tokens.now)
+        program → ⊥ }
 {
     program(alloc, text, tokens)
 }

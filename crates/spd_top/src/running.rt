@@ -1,5 +1,7 @@
-ghost use Rattle.std.specs.Prelude.{◌≡◌, ◌++◌, ℕ, Ok, Some, slice_get, IfOk, OnOk, OnErr};
-ghost use Rattle.spd_io.specs.Sink.{Gets, GetsFront, Failed, KeepsFaults};
+// Running main.
+
+ghost use Rattle.std.specs.Prelude.{◌≡◌, ◌≢◌, ◌++◌, ℕ, Ok, Some, slice_get, IfOk, OnOk, OnErr};
+ghost use Rattle.spd_io.specs.Sink.{Gets, GetsFront, Failed, SinkKeepsFaults, SameFaults};
 ghost use Rattle.spd_words.specs.Gift.{gift};
 ghost use Rattle.spd_check.specs.declared.code.CodeBlock.{out-CodeBlock};
 ghost use Rattle.spd_check.specs.Blocks.{IsBlock};
@@ -53,7 +55,9 @@ fn add_part(
     part: &CodePrintPart,
     line: &mut Vec<u8>,
 ) -> Result<(), AllocError>
-    ensures { (at : ℕ) → IfOk result (λ _. with_text (part_text part.now vars.now at) (λ text. Ok (line.old.items ++ text)) ≡ Ok line.new.items) }
+    ensures { (at : ℕ) → IfOk result (λ _. with_text (part_text part.now vars.now at)
+        (λ text. Ok (line.old.items ++ text))
+        ≡ Ok line.new.items) }
 {
     match part {
         CodePrintPart::Lit(text) => line.extend_from_slice(text.as_slice())?,
@@ -78,7 +82,8 @@ fn parts_text(alloc: Global, vars: &[i64], parts: &[CodePrintPart]) -> Result<Ve
 
 /// The line of a print, with its end of line.
 fn line_of(alloc: Global, vars: &[i64], parts: &[CodePrintPart]) -> Result<Vec<u8>, AllocError>
-    ensures { (at : ℕ) → IfOk result (λ line. line_written (parts_text parts.now vars.now at) vars.now ≡ record { bytes = line.items; end = Fell vars.now }) }
+    ensures { (at : ℕ) → IfOk result (λ line. line_written (parts_text parts.now vars.now at) vars.now ≡ record
+        { bytes = line.items; end = Fell vars.now }) }
 {
     let mut line = parts_text(alloc, vars, parts)?;
     line.push(b'\n')?;
@@ -113,10 +118,13 @@ fn run_step<R: Regions, O: Sink>(
     out: &mut O,
 ) -> Result<(), RunError>
     requires { HasItsBlock (R.code regions.old) stmt.now }
-    ensures ran { OnOk result (Ran (stmt_written stmt.now vars.old.items) vars.new.items (O.state out.old) (O.state out.new)) }
-    ensures front { OnErr result (GetsFront (O.state out.old) (O.state out.new) (stmt_written stmt.now vars.old.items).bytes) }
+    ensures ran { OnOk result (Ran (stmt_written stmt.now vars.old.items) vars.new.items (O.state out.old)
+        (O.state out.new)) }
+    ensures front { OnErr result (GetsFront (O.state out.old) (O.state out.new)
+        (stmt_written stmt.now vars.old.items).bytes) }
     ensures cause { result ≡ Err RunError.WriteFailed → Failed (O.state out.old) (O.state out.new) }
-    ensures counts { KeepsFaults (O.state out.old) (O.state out.new) }
+    ensures counts { SinkKeepsFaults (O.state out.old) (O.state out.new) }
+    ensures kept { result ≢ Err RunError.WriteFailed → SameFaults (O.state out.old) (O.state out.new) }
     ensures code { R.code regions.new ≡ R.code regions.old }
 {
     match &stmt.what {
@@ -150,6 +158,7 @@ pub(crate) fn run<R: Regions, O: Sink>(
     ensures all { OnOk result (Gets (O.state out.old) (O.state out.new) (main_written code.now).bytes) }
     ensures front { OnErr result (GetsFront (O.state out.old) (O.state out.new) (main_written code.now).bytes) }
     ensures cause { result ≡ Err RunError.WriteFailed → Failed (O.state out.old) (O.state out.new) }
+    ensures kept { result ≢ Err RunError.WriteFailed → SameFaults (O.state out.old) (O.state out.new) }
 {
     let mut vars = Vec::new(alloc);
     let stmts = &code.main().stmts;

@@ -1,6 +1,8 @@
-ghost use Rattle.std.specs.Prelude.{◌≡◌, ◌⊎◌, ℕ, List, [], Some};
+// What the words of a command line do, over files and sinks.
+
+ghost use Rattle.std.specs.Prelude.{◌≡◌, ◌≢◌, ◌<◌, ◌⊎◌, ℕ, List, [], Some};
 ghost use Rattle.spd_io.specs.Shelf.{FailedAt, ChangesNoOther};
-ghost use Rattle.spd_io.specs.Sink.{Failed};
+ghost use Rattle.spd_io.specs.Sink.{Failed, SameFaults};
 ghost use Rattle.spd_top.specs.Serving.{operand_of, words_refused, Says, Answer, Runs};
 
 use crate::building::build;
@@ -42,15 +44,22 @@ pub fn serve_still<F: Shelf, O: Sink, E: Sink>(
     err: &mut E,
 ) -> u8
     // The status, the bytes and the line are those of the outcome, unless a read, a sink or memory failed.
-    ensures answer { Answer words.now (F.state shelf.old) (F.state shelf.new) (O.state out.old) (O.state out.new) (E.state err.old) (E.state err.new) result }
+    ensures answer { Answer words.now (F.state shelf.old) (F.state shelf.new) (O.state out.old) (O.state out.new)
+        (E.state err.old) (E.state err.new) result }
     // Refused words are told as such, whatever memory there is, and the shelf isn't called.
     ensures refused { operand_of words.now ≡ None → Says 2 (E.state err.old) (E.state err.new) words_refused result }
     ensures uncalled { operand_of words.now ≡ None → shelf.new ≡ shelf.old }
-    // No file but PROGRAM is read.
-    ensures others { (name : List ℕ) → operand_of words.now ≡ Some name → ChangesNoOther (F.state shelf.old) (F.state shelf.new) name }
+    // No count but PROGRAM's changes.
+    ensures others { (name : List ℕ) → operand_of words.now ≡ Some name →
+        ChangesNoOther (F.state shelf.old) (F.state shelf.new) name }
     // 4 comes only where a read of PROGRAM failed, and 5 only where a sink failed.
-    ensures read_cause { (name : List ℕ) → operand_of words.now ≡ Some name → result ≡ 4 → FailedAt (F.state shelf.old) (F.state shelf.new) name }
-    ensures write_cause { result ≡ 5 → Failed (O.state out.old) (O.state out.new) ⊎ Failed (E.state err.old) (E.state err.new) }
+    ensures read_cause { (name : List ℕ) → operand_of words.now ≡ Some name → result ≡ 4 →
+        FailedAt (F.state shelf.old) (F.state shelf.new) name }
+    ensures write_cause { result ≡ 5 →
+        Failed (O.state out.old) (O.state out.new) ⊎ Failed (E.state err.old) (E.state err.new) }
+    // Where `out` failed the status is 5, and where `err` failed it is 4, 5 or 7.
+    ensures out_kept { result ≢ 5 → SameFaults (O.state out.old) (O.state out.new) }
+    ensures err_kept { result < 4 → SameFaults (E.state err.old) (E.state err.new) }
 {
     let Some(name) = words.operand() else {
         return refuse_words(err);

@@ -1,5 +1,7 @@
+// Reading statements and blocks.
+
 ghost use Rattle.std.specs.Prelude.{◌≡◌, ℕ, List, length, []};
-ghost use Rattle.spd_top.specs.Reading.{Gives, all_seen, collect_at, binding_at, offering_at, collecting_at, naming_at, beginning_at, finishing_at, statement_at, next_statement_at, statements_at, braced_at, block_at};
+ghost use Rattle.spd_top.specs.Reading.{ReaderGives, all_seen, collect_at, binding_at, offering_at, collecting_at, naming_at, beginning_at, finishing_at, statement_at, next_statement_at, statements_at, braced_at, read_block_at};
 
 use crate::expressions::expression;
 use crate::printing::printing;
@@ -11,7 +13,8 @@ use std::alloc::Global;
 /// Reads the word for what a finish makes of its offers.
 #[tactic(auto, unfolding(crate::specs::Reading::collect_at))]
 fn collect<'a>(tokens: &'a [Token]) -> Read<'a, Collect>
-    ensures { (text : List ℕ) → Gives (λ x. (x.0, all_seen text x.1.now)) result (collect_at (all_seen text tokens.now)) }
+    ensures { (text : List ℕ) → ReaderGives (λ x. (x.0, all_seen text x.1.now)) result
+        (collect_at (all_seen text tokens.now)) }
 {
     match tokens {
         [token, rest @ ..] => match token.kind {
@@ -33,7 +36,8 @@ fn binding<'a>(
     name: Name,
     tokens: &'a [Token],
 ) -> Read<'a, Stmt>
-    ensures { Gives (λ x. (x.0, all_seen text.now x.1.now)) result (binding_at line name (all_seen text.now tokens.now)) }
+    ensures { ReaderGives (λ x. (x.0, all_seen text.now x.1.now)) result
+        (binding_at line name (all_seen text.now tokens.now)) }
 {
     let (value, rest) = expression(alloc, text, tokens)?;
     let (_, rest) = mark(rest, Mark::Semicolon)?;
@@ -44,7 +48,8 @@ fn binding<'a>(
 /// Reads what stands behind `offer`.
 #[tactic(auto, unfolding(crate::specs::Reading::offering_at))]
 fn offering<'a>(alloc: Global, text: &[u8], line: u32, tokens: &'a [Token]) -> Read<'a, Stmt>
-    ensures { Gives (λ x. (x.0, all_seen text.now x.1.now)) result (offering_at line (all_seen text.now tokens.now)) }
+    ensures { ReaderGives (λ x. (x.0, all_seen text.now x.1.now)) result
+        (offering_at line (all_seen text.now tokens.now)) }
 {
     let (value, rest) = expression(alloc, text, tokens)?;
     let (_, rest) = mark(rest, Mark::Semicolon)?;
@@ -63,7 +68,8 @@ fn collecting<'a>(
     name: Name,
     tokens: &'a [Token],
 ) -> Read<'a, Stmt>
-    ensures { Gives (λ x. (x.0, all_seen text.now x.1.now)) result (collecting_at (block_at depth) line name (all_seen text.now tokens.now)) }
+    ensures { ReaderGives (λ x. (x.0, all_seen text.now x.1.now)) result
+        (collecting_at (read_block_at depth) line name (all_seen text.now tokens.now)) }
 {
     let (_, rest) = word(tokens, Word::Finish)?;
     let (kind, rest) = collect(rest)?;
@@ -82,7 +88,8 @@ fn naming<'a>(
     line: u32,
     tokens: &'a [Token],
 ) -> Read<'a, Stmt>
-    ensures { Gives (λ x. (x.0, all_seen text.now x.1.now)) result (naming_at (block_at depth) line (all_seen text.now tokens.now)) }
+    ensures { ReaderGives (λ x. (x.0, all_seen text.now x.1.now)) result
+        (naming_at (read_block_at depth) line (all_seen text.now tokens.now)) }
 {
     let (name, rest) = name(alloc, text, tokens)?;
     let (_, rest) = mark(rest, Mark::Assign)?;
@@ -102,7 +109,8 @@ fn beginning<'a>(
     line: u32,
     tokens: &'a [Token],
 ) -> Read<'a, Stmt>
-    ensures { Gives (λ x. (x.0, all_seen text.now x.1.now)) result (beginning_at (block_at depth) line (all_seen text.now tokens.now)) }
+    ensures { ReaderGives (λ x. (x.0, all_seen text.now x.1.now)) result
+        (beginning_at (read_block_at depth) line (all_seen text.now tokens.now)) }
 {
     let ((body, _), rest) = block(alloc, text, depth, tokens)?;
     let what = StmtKind::Async { body };
@@ -119,7 +127,8 @@ fn finishing<'a>(
     line: u32,
     tokens: &'a [Token],
 ) -> Read<'a, Stmt>
-    ensures { Gives (λ x. (x.0, all_seen text.now x.1.now)) result (finishing_at (block_at depth) line (all_seen text.now tokens.now)) }
+    ensures { ReaderGives (λ x. (x.0, all_seen text.now x.1.now)) result
+        (finishing_at (read_block_at depth) line (all_seen text.now tokens.now)) }
 {
     let ((body, _), rest) = block(alloc, text, depth, tokens)?;
     let what = StmtKind::Finish { body };
@@ -130,7 +139,8 @@ fn finishing<'a>(
 #[cycle(block)]
 #[tactic(auto, unfolding(crate::specs::Reading::statement_at))]
 fn statement<'a>(alloc: Global, text: &[u8], depth: u32, tokens: &'a [Token]) -> Read<'a, Stmt>
-    ensures { Gives (λ x. (x.0, all_seen text.now x.1.now)) result (statement_at (block_at depth) (all_seen text.now tokens.now)) }
+    ensures { ReaderGives (λ x. (x.0, all_seen text.now x.1.now)) result
+        (statement_at (read_block_at depth) (all_seen text.now tokens.now)) }
 {
     let [token, rest @ ..] = tokens else {
         return Err(ReadError::NotBuilt);
@@ -155,7 +165,8 @@ fn next_statement<'a>(
     found: Block,
     tokens: &'a [Token],
 ) -> Read<'a, Block>
-    ensures { Gives (λ x. (x.0, all_seen text.now x.1.now)) result (next_statement_at (block_at depth) found (all_seen text.now tokens.now)) }
+    ensures { ReaderGives (λ x. (x.0, all_seen text.now x.1.now)) result
+        (next_statement_at (read_block_at depth) found (all_seen text.now tokens.now)) }
 {
     let mut found = found;
     let (statement, rest) = statement(alloc, text, depth, tokens)?;
@@ -166,7 +177,8 @@ fn next_statement<'a>(
 /// Reads statements up to a closing brace.
 #[cycle(block)]
 fn statements<'a>(alloc: Global, text: &[u8], depth: u32, tokens: &'a [Token]) -> Read<'a, Block>
-    ensures { Gives (λ x. (x.0, all_seen text.now x.1.now)) result (statements_at (block_at depth) (length tokens.now) [] (all_seen text.now tokens.now)) }
+    ensures { ReaderGives (λ x. (x.0, all_seen text.now x.1.now)) result
+        (statements_at (read_block_at depth) (length tokens.now) [] (all_seen text.now tokens.now)) }
 {
     let mut found = Block::new(alloc);
     let mut rest = tokens;
@@ -190,7 +202,8 @@ fn statements<'a>(alloc: Global, text: &[u8], depth: u32, tokens: &'a [Token]) -
 #[cycle(block)]
 #[tactic(auto, unfolding(crate::specs::Reading::braced_at))]
 fn braced<'a>(alloc: Global, text: &[u8], depth: u32, tokens: &'a [Token]) -> Read<'a, (Block, u32)>
-    ensures { Gives (λ x. (x.0, all_seen text.now x.1.now)) result (braced_at (block_at depth) (all_seen text.now tokens.now)) }
+    ensures { ReaderGives (λ x. (x.0, all_seen text.now x.1.now)) result
+        (braced_at (read_block_at depth) (all_seen text.now tokens.now)) }
 {
     let (_, rest) = mark(tokens, Mark::LeftBrace)?;
     let (body, rest) = statements(alloc, text, depth, rest)?;
@@ -207,7 +220,8 @@ pub(crate) fn block<'a>(
     depth: u32,
     tokens: &'a [Token],
 ) -> Read<'a, (Block, u32)>
-    ensures { Gives (λ x. (x.0, all_seen text.now x.1.now)) result (block_at depth (all_seen text.now tokens.now)) }
+    ensures { ReaderGives (λ x. (x.0, all_seen text.now x.1.now)) result
+        (read_block_at depth (all_seen text.now tokens.now)) }
 {
     if depth == 0 {
         return Err(ReadError::NotBuilt);

@@ -1,3 +1,5 @@
+// The lines for standard error, with the status that each tells.
+
 ghost use Rattle.std.specs.Prelude.{◌≡◌, ◌⊎◌, codes, string_bytes, IfOk};
 ghost use Rattle.spd_top.specs.Serving.{words_refused, out_of_memory, of_file, GetsOrFails, Says, WantsMemory};
 
@@ -51,7 +53,8 @@ fn file_line(alloc: Global, name: &str, what: &str) -> Result<String, AllocError
 
 /// Tells that a program is refused, and answers 1; or 5 where `err` fails.
 pub(crate) fn refuse_program<E: Sink>(alloc: Global, err: &mut E, name: &str, kind: &str) -> u8
-    ensures { Says 1 (E.state err.old) (E.state err.new) (of_file name.now kind.now) result ⊎ WantsMemory (E.state err.old) (E.state err.new) result }
+    ensures { Says 1 (E.state err.old) (E.state err.new) (of_file name.now kind.now) result ⊎
+        WantsMemory (E.state err.old) (E.state err.new) result }
 {
     match file_line(alloc, name, kind) {
         Ok(line) => say(err, line.as_bytes(), status::PROGRAM_REFUSED),
@@ -61,7 +64,8 @@ pub(crate) fn refuse_program<E: Sink>(alloc: Global, err: &mut E, name: &str, ki
 
 /// Tells that a file could not be read, and answers 4, also where `err` fails.
 pub(crate) fn fail_read<E: Sink>(alloc: Global, err: &mut E, name: &str) -> u8
-    ensures { ((result ≡ 4) × GetsOrFails (E.state err.old) (E.state err.new) (of_file name.now (codes "read failed"))) ⊎ WantsMemory (E.state err.old) (E.state err.new) result }
+    ensures { ((result ≡ 4) × GetsOrFails (E.state err.old) (E.state err.new) (of_file name.now (codes "read failed")))
+        ⊎ WantsMemory (E.state err.old) (E.state err.new) result }
 {
     match file_line(alloc, name, "read failed") {
         Ok(line) => {

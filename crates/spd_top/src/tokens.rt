@@ -1,6 +1,8 @@
+// Reading one token.
+
 ghost use Rattle.std.specs.Prelude.{◌≡◌, ◌-◌, ℕ, List, take, drop};
 ghost use Rattle.spd_syntax.specs.Tokens.{seen};
-ghost use Rattle.spd_top.specs.Reading.{Gives, all_seen, is_word, is_mark, next_is, word_at, mark_at, name_at};
+ghost use Rattle.spd_top.specs.Reading.{ReaderGives, all_seen, is_word, is_mark, next_is, word_at, mark_at, name_at};
 
 use crate::reading::ReadError;
 use spd_syntax::{Mark, Name, Token, TokenKind, Word};
@@ -40,7 +42,8 @@ pub(crate) fn is_mark(token: &Token, which: Mark) -> bool
 
 /// Reads a word, of which it gives the line.
 pub(crate) fn word<'a>(tokens: &'a [Token], which: Word) -> Read<'a, u32>
-    ensures { (text : List ℕ) → Gives (λ x. (x.0, all_seen text x.1.now)) result (word_at which (all_seen text tokens.now)) }
+    ensures { (text : List ℕ) → ReaderGives (λ x. (x.0, all_seen text x.1.now)) result
+        (word_at which (all_seen text tokens.now)) }
 {
     match tokens {
         [token, rest @ ..] if is_word(token, which) => Ok((token.line, rest)),
@@ -50,7 +53,8 @@ pub(crate) fn word<'a>(tokens: &'a [Token], which: Word) -> Read<'a, u32>
 
 /// Reads a mark, of which it gives the line.
 pub(crate) fn mark<'a>(tokens: &'a [Token], which: Mark) -> Read<'a, u32>
-    ensures { (text : List ℕ) → Gives (λ x. (x.0, all_seen text x.1.now)) result (mark_at which (all_seen text tokens.now)) }
+    ensures { (text : List ℕ) → ReaderGives (λ x. (x.0, all_seen text x.1.now)) result
+        (mark_at which (all_seen text tokens.now)) }
 {
     match tokens {
         [token, rest @ ..] if is_mark(token, which) => Ok((token.line, rest)),
@@ -59,7 +63,7 @@ pub(crate) fn mark<'a>(tokens: &'a [Token], which: Mark) -> Read<'a, u32>
 }
 
 pub(crate) fn name<'a>(alloc: Global, text: &[u8], tokens: &'a [Token]) -> Read<'a, Name>
-    ensures { Gives (λ x. (x.0, all_seen text.now x.1.now)) result (name_at (all_seen text.now tokens.now)) }
+    ensures { ReaderGives (λ x. (x.0, all_seen text.now x.1.now)) result (name_at (all_seen text.now tokens.now)) }
 {
     match tokens {
         [token, rest @ ..] => match token.kind {

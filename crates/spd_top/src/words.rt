@@ -1,3 +1,5 @@
+// The words of a command line.
+
 ghost use Rattle.std.specs.Prelude.{◌≡◌, [], ◌∷◌, ◌++◌, Some, None, OnOk, OnErr, MatchOption};
 ghost use Rattle.spd_top.specs.Serving.{is_operand, operand_of};
 

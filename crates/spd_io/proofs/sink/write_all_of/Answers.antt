@@ -10,6 +10,6 @@ loop-sent-preserved g c =
     record {
       within = omega (arith, given.within, length-drop c.loop-sent.sent c.args.bytes.now);
       taken = Gets-then (g.S.Sink.state c.args.sink.now) (g.S.Sink.state c.loop-sent.sink) (g.S.Sink.state c.put.new.self) _ _ _ (sym (take-add c.loop-sent.sent c.in-Ok.count c.args.bytes.now)) c.loop-sent.invariant.taken given.taken;
-      counts = omega arith;
+      kept = omega arith;
       none = λ e. absurd (omega (arith, ap length e));
     }

@@ -1,5 +1,5 @@
 use Rattle.std.proofs.Common.{length, ◌-◌, ◌≡◌, ◌≤◌, [], take}
-use Rattle.spd_io.specs.Sink.{Gets, KeepsFaults}
+use Rattle.spd_io.specs.Sink.{Gets, SameFaults}
 use Rattle.spd_io.proofs.sink.write_all_of.Given as goal
 
 abbrev pub invariant-loop-sent : goal.invariant-loop-sent
@@ -7,7 +7,7 @@ invariant-loop-sent g l =
     record {
       within : l.sent ≤ length l.bytes;
       taken : Gets (g.S.Sink.state l.fn.sink) (g.S.Sink.state l.sink) (take l.sent l.bytes);
-      counts : KeepsFaults (g.S.Sink.state l.fn.sink) (g.S.Sink.state l.sink);
+      kept : SameFaults (g.S.Sink.state l.fn.sink) (g.S.Sink.state l.sink);
       none : l.bytes ≡ [] → l.sink ≡ l.fn.sink;
     }
 

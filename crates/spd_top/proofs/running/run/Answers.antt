@@ -1,7 +1,8 @@
-use Rattle.std.proofs.Common.{arith, subst}
+use Rattle.std.proofs.Common.{◌∙◌, subst}
 use Rattle.std.proofs.lemmas.Result.{err_from_is_err_and}
 use Rattle.spd_check.specs.declared.code.CodeBlock.{out-CodeBlock}
 use Rattle.spd_top.specs.Meaning.{main_written}
+use Rattle.spd_top.proofs.Putting.{ended_well}
 use Rattle.spd_top.proofs.MainStatements.{has_its_block}
 use Rattle.spd_top.proofs.Runs.{SoFar, goes_on, stops, at_place}
 use Rattle.spd_top.proofs.running.run.Goals as goal
@@ -20,7 +21,7 @@ loop-place-preserved g c =
     record {
       so_far = goes_on whole (g.O.Sink.state c.args.out.now) (g.O.Sink.state c.loop-place.out) c.loop-place.vars.items c.get.result.now _ here (g.O.Sink.state c.run_step.new.out) c.run_step.new.vars.items c.in_ok-run_step.ensures.ran;
       code = rw c.run_step.ensures.code c.loop-place.invariant.code;
-      counts = omega (arith, c.loop-place.invariant.counts, c.run_step.ensures.counts);
+      kept = c.in_ok-run_step.ensures.kept (ended_well _ _) ∙ c.loop-place.invariant.kept;
     }
 
 pub returns-in_err-run_step-clause-front : goal.returns-in_err-run_step-clause-front

@@ -1,5 +1,5 @@
 use Rattle.std.proofs.Common.{◌≡◌, drop}
-use Rattle.spd_io.specs.Sink.{KeepsFaults}
+use Rattle.spd_io.specs.Sink.{SameFaults}
 use Rattle.spd_check.specs.declared.code.CodeBlock.{out-CodeBlock}
 use Rattle.spd_top.specs.Meaning.{main_written}
 use Rattle.spd_top.proofs.Runs.{SoFar}
@@ -10,5 +10,5 @@ invariant-loop-place g l =
     record {
       so_far : SoFar (main_written l.fn.code) (g.O.Sink.state l.fn.out) (g.O.Sink.state l.out) l.vars.items (drop l.place (out-CodeBlock l.fn.code).stmts);
       code : g.R.Regions.code l.regions ≡ l.fn.code;
-      counts : KeepsFaults (g.O.Sink.state l.fn.out) (g.O.Sink.state l.out);
+      kept : SameFaults (g.O.Sink.state l.fn.out) (g.O.Sink.state l.out);
     }

@@ -1,6 +1,6 @@
 use Rattle.std.proofs.Common.{◌∙◌, ◌<◌, sym, ap, not, arith}
 use Rattle.std.proofs.lemmas.Result.{err_from_is_err_and}
-use Rattle.spd_top.specs.Reading.{all_seen, is_inside, next_statement_at, block_at}
+use Rattle.spd_top.specs.Reading.{all_seen, is_inside, next_statement_at, read_block_at}
 use Rattle.spd_top.proofs.Depths.{block_closed, block_open}
 use Rattle.spd_top.proofs.Repeat as r
 use Rattle.spd_top.proofs.statements.+block.Goals as goal
@@ -14,18 +14,18 @@ block-returns t c =
     rw (block_open c.args.depth (all_seen c.args.text.now c.args.tokens.now) some) c.braced.ensures
 
 pub statements-returns-in_default : goal.statements-returns-in_default
-statements-returns-in_default t c = sym c.loop.invariant ∙ r.ends _ is_inside (next_statement_at (block_at c.args.depth)) c.args.text.now _ c.loop.found c.loop.rest.now c.in_default.len_below
+statements-returns-in_default t c = sym c.loop.invariant ∙ r.ends _ is_inside (next_statement_at (read_block_at c.args.depth)) c.args.text.now _ c.loop.found c.loop.rest.now c.in_default.len_below
 
 pub statements-returns-then-is_mark : goal.statements-returns-then-is_mark
-statements-returns-then-is_mark t c = sym c.loop.invariant ∙ r.stops _ is_inside (next_statement_at (block_at c.args.depth)) c.args.text.now _ c.loop.found c.loop.rest.now _ c.in-len1-up.len_at_least (ap not (sym (c.is_mark.ensures c.args.text.now) ∙ c.if-is_mark.true))
+statements-returns-then-is_mark t c = sym c.loop.invariant ∙ r.stops _ is_inside (next_statement_at (read_block_at c.args.depth)) c.args.text.now _ c.loop.found c.loop.rest.now _ c.in-len1-up.len_at_least (ap not (sym (c.is_mark.ensures c.args.text.now) ∙ c.if-is_mark.true))
 
 pub statements-returns-in_err-next : goal.statements-returns-in_err-next
 statements-returns-in_err-next t c =
     let p = err_from_is_err_and c.from_residual.result c.from_residual.ensures.1 in
-    rw (p.1, p.2) (r.fails _ is_inside (next_statement_at (block_at c.args.depth)) c.args.text.now c.in_err-next.field-0.0 _ c.loop.counter c.loop.found c.loop.rest.now _ _ c.loop-test.true c.in-len1-up.len_at_least (ap not (sym (c.is_mark.ensures c.args.text.now) ∙ c.if-is_mark.false)) c.in_err-next.ensures c.loop.invariant)
+    rw (p.1, p.2) (r.fails _ is_inside (next_statement_at (read_block_at c.args.depth)) c.args.text.now c.in_err-next.field-0.0 _ c.loop.counter c.loop.found c.loop.rest.now _ _ c.loop-test.true c.in-len1-up.len_at_least (ap not (sym (c.is_mark.ensures c.args.text.now) ∙ c.if-is_mark.false)) c.in_err-next.ensures c.loop.invariant)
 
 pub statements-loop-preserved : goal.statements-loop-preserved
-statements-loop-preserved t c = r.goes_on _ is_inside (next_statement_at (block_at c.args.depth)) c.args.text.now _ c.loop.counter c.loop.found c.in_ok-next.next c.loop.rest.now _ _ c.loop-test.true c.in-len1-up.len_at_least (ap not (sym (c.is_mark.ensures c.args.text.now) ∙ c.if-is_mark.false)) c.in_ok-next.ensures ∙ c.loop.invariant
+statements-loop-preserved t c = r.goes_on _ is_inside (next_statement_at (read_block_at c.args.depth)) c.args.text.now _ c.loop.counter c.loop.found c.in_ok-next.next c.loop.rest.now _ _ c.loop-test.true c.in-len1-up.len_at_least (ap not (sym (c.is_mark.ensures c.args.text.now) ∙ c.if-is_mark.false)) c.in_ok-next.ensures ∙ c.loop.invariant
 
 pub statements-returns : goal.statements-returns
-statements-returns t c = sym c.loop.invariant ∙ r.is_done _ is_inside (next_statement_at (block_at c.args.depth)) c.args.text.now _ c.loop.counter c.loop.found _ c.loop-test.false
+statements-returns t c = sym c.loop.invariant ∙ r.is_done _ is_inside (next_statement_at (read_block_at c.args.depth)) c.args.text.now _ c.loop.counter c.loop.found _ c.loop-test.false

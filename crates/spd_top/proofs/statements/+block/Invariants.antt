@@ -1,5 +1,5 @@
 use Rattle.std.proofs.Common.{◌≡◌, ◌+◌, ◌-◌, ◌*◌, []}
-use Rattle.spd_top.specs.Reading.{all_seen, is_inside, repeat, next_statement_at, block_at}
+use Rattle.spd_top.specs.Reading.{all_seen, is_inside, repeat, next_statement_at, read_block_at}
 use Rattle.spd_top.proofs.statements.+block.Given as goal
 
 abbrev pub decreases-block : goal.decreases-block
@@ -30,4 +30,4 @@ abbrev pub decreases-braced : goal.decreases-braced
 decreases-braced l = 8 * l.depth + 6
 
 abbrev pub invariant-statements-loop : goal.invariant-statements-loop
-invariant-statements-loop l = repeat is_inside (next_statement_at (block_at l.depth)) (l.limit - l.counter) l.found (all_seen l.text l.rest) ≡ repeat is_inside (next_statement_at (block_at l.depth)) l.limit [] (all_seen l.text l.fn.tokens)
+invariant-statements-loop l = repeat is_inside (next_statement_at (read_block_at l.depth)) (l.limit - l.counter) l.found (all_seen l.text l.rest) ≡ repeat is_inside (next_statement_at (read_block_at l.depth)) l.limit [] (all_seen l.text l.fn.tokens)
