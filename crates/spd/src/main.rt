@@ -2,65 +2,30 @@
 //! puts to the standard streams.
 #![tactic(auto)]
 
-ghost use Rattle.std.specs.Prelude.{◌≡◌, ◌↔◌};
-ghost use Rattle.std.specs.IoError.{error_kind};
-ghost use Rattle.std.specs.declared.io.ErrorKind.TheVariants.{OutOfMemory};
-ghost use Rattle.spd.specs.declared.WordsFault.TheVariants.{NoMemory};
+mod arguments;
+mod command;
+mod dir_shelf;
+mod process_arguments;
+mod size_limit;
+mod std_stream;
 
-mod outside;
-
-use outside::{DirShelf, StdErr, StdOut};
-use spd_top::{Words, out_of_memory, refuse_words, serve_still};
-use std::alloc::AllocError;
-use std::io::ErrorKind;
+use arguments::all_arguments;
+use command::serve_arguments;
+use dir_shelf::DirShelf;
+use process_arguments::ProcessArguments;
+use size_limit::SizeLimit;
 use std::process::ExitCode;
-use std::rt::Env;
-use std::{env, io};
-
-/// Why the words can't be had.
-#[derive(Clone, Copy)]
-enum WordsFault {
-    NoMemory,
-    Refused,
-}
-
-impl From<AllocError> for WordsFault {
-    ghost from_gives = { λ _ fault. fault ≡ NoMemory };
-
-    fn from(_: AllocError) -> WordsFault {
-        WordsFault::NoMemory
-    }
-}
-
-impl From<io::Error> for WordsFault {
-    ghost from_gives = { λ error fault. fault ≡ NoMemory ↔ error_kind error ≡ OutOfMemory };
-
-    fn from(error: io::Error) -> WordsFault {
-        match error.kind() {
-            ErrorKind::OutOfMemory => WordsFault::NoMemory,
-            _ => WordsFault::Refused,
-        }
-    }
-}
-
-/// The arguments after the program's own name. One that isn't UTF-8 is refused.
-fn words_of<R: Env + AllocGlobal>(rt: &R) -> Result<Words, WordsFault> {
-    let mut words = Words::new(rt.alloc());
-    for word in env::args(rt)?.skip(1) {
-        words.add(rt.alloc(), word.as_str())?;
-    }
-    Ok(words)
-}
+use std_stream::{StdErr, StdOut};
 
 fn main(rt: HostRuntime) -> ExitCode {
     let alloc = rt.alloc();
+    let arguments = all_arguments(alloc, &ProcessArguments::new(&rt));
     let mut shelf = DirShelf::new(alloc, &rt);
-    let mut out = StdOut::new(rt.stdout());
-    let mut err = StdErr::new(rt.stderr());
-    let status = match words_of(&rt) {
-        Ok(words) => serve_still(alloc, &words, &mut shelf, &mut out, &mut err),
-        Err(WordsFault::NoMemory) => out_of_memory(&mut err),
-        Err(WordsFault::Refused) => refuse_words(&mut err),
-    };
+    let mut out = StdOut::new(rt.stdout(), SizeLimit::of_output(&rt));
+    let mut err = StdErr::new(rt.stderr(), SizeLimit::of_errors(&rt));
+    // Named, so that neither sink can stand for the other.
+    let status = serve_arguments::<_, StdOut<_>, StdErr<_>>(
+        alloc, arguments, &mut shelf, &mut out, &mut err,
+    );
     ExitCode::from(status)
 }

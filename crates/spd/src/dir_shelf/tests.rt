@@ -1,3 +1,5 @@
+// The shelf over real files.
+
 use super::*;
 use std::test::Fail;
 use std::{env, process};
@@ -31,18 +33,4 @@ fn one_byte_more_than_the_limit_is_read_at_most(rt: HostRuntime) -> Result<(), F
     assert_eq!(rt; read, Err(ShelfFault::TooLong));
     assert_eq!(rt; reader, b" }\n".as_slice());
     Ok(())
-}
-
-#[test]
-fn standard_output_takes_a_short_piece_whole(rt: HostRuntime) {
-    let mut out = StdOut::new(rt.stdout());
-    assert_eq!(rt; out.put(b"n=3\n"), Ok(4));
-    assert_eq!(rt; out.put(b""), Ok(0));
-}
-
-#[test]
-fn standard_error_takes_a_short_piece_whole(rt: HostRuntime) {
-    let mut err = StdErr::new(rt.stderr());
-    assert_eq!(rt; err.put(b"spd: words refused\n"), Ok(19));
-    assert_eq!(rt; err.put(b""), Ok(0));
 }

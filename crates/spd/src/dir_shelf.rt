@@ -1,9 +1,10 @@
-ghost use Rattle.std.specs.Prelude.{◌≡◌, ◌≤◌, ◌<◌, ◌⊎◌, ◌↔◌, [], None, IfOk, IfSome, length};
+// The shelf of the working folder.
+ghost use Rattle.std.specs.Prelude.{◌≡◌, ◌≤◌, ◌<◌, ◌⊎◌, ◌↔◌, [], IfOk, IfSome, length};
 ghost use Rattle.std.specs.IoError.{error_kind};
 ghost use Rattle.spd_io.specs.Shelf.{Untold};
 ghost use Rattle.spd_io.specs.Memory.{times_of, failed_after};
 
-use spd_io::{Shelf, ShelfFault, Sink, SinkFault, note_failure};
+use spd_io::{Shelf, ShelfFault, note_failure};
 use spd_list::Seq;
 use std::alloc::Global;
 use std::io::{ErrorKind, Read};
@@ -71,7 +72,8 @@ fn read_file<R: Files>(
 fn read_within<R: Read>(alloc: Global, reader: &mut R, limit: usize) -> Result<Vec<u8>, ShelfFault>
     ensures within { IfOk result (λ file. length file.items ≤ limit) }
     ensures whole { IfOk result (λ file. IfSome (R.remaining reader.old) (λ bytes. file.items ≡ bytes)) }
-    ensures too_long { result ≡ Err ShelfFault.TooLong → IfSome (R.remaining reader.old) (λ bytes. limit < length bytes) }
+    ensures too_long { result ≡ Err ShelfFault.TooLong →
+        IfSome (R.remaining reader.old) (λ bytes. limit < length bytes) }
 {
     let wanted = (limit as u64).saturating_add(1);
     let mut file = Vec::new(alloc);
@@ -93,45 +95,6 @@ fn fault_of(error: io::Error) -> ShelfFault
     match error.kind() {
         ErrorKind::OutOfMemory => ShelfFault::NoMemory,
         _ => ShelfFault::Failed,
-    }
-}
-
-/// Standard output. Each piece is written by one call of the system.
-pub type StdOut = StdStream<io::Stdout>;
-
-/// Standard error. Each piece is written by one call of the system.
-pub type StdErr = StdStream<io::Stderr>;
-
-/// A standard stream. It tells nothing of what it got, and counts its faults up to 2^64 - 1.
-#[derive(Drop)]
-pub struct StdStream<P: Print> {
-    stream: P,
-    faults: u64,
-}
-
-impl<P: Print> StdStream<P> {
-    /// The stream before its first piece.
-    pub fn new(stream: P) -> StdStream<P>
-        ensures { result.faults ≡ 0 }
-    {
-        StdStream { stream, faults: 0 }
-    }
-}
-
-impl<P: Print> Sink for StdStream<P> {
-    ghost state = { λ stream. record { got = None; faults = stream.faults } };
-
-    fn put(&mut self, piece: &[u8]) -> Result<usize, SinkFault> {
-        if piece.is_empty() {
-            return Ok(0);
-        }
-        match self.stream.write_some(piece) {
-            Ok(taken) if taken > 0 => Ok(taken),
-            _ => {
-                self.faults = self.faults.saturating_add(1);
-                Err(SinkFault::Failed)
-            }
-        }
     }
 }
 

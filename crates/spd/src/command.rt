@@ -1,0 +1,104 @@
+// The command: what the program does, as a function of its arguments, its files and its sinks.
+ghost use Rattle.std.specs.Prelude.{◌≡◌, ◌≢◌, ◌<◌, ◌⊎◌, ◌↔◌, ℕ, List, IfOk, OnErr, IsTrue, Some, None};
+ghost use Rattle.spd_io.specs.Shelf.{FailedAt, ChangesNoOther};
+ghost use Rattle.spd_io.specs.Sink.{Failed, SameFaults};
+ghost use Rattle.spd_top.specs.Serving.{operand_of, words_refused, Says, WantsMemory, Answer};
+ghost use Rattle.spd.specs.Command.{words_of, AreText, OfWords, WhereNotText};
+
+use spd_io::{Shelf, Sink};
+use spd_list::Seq;
+use spd_top::{Words, out_of_memory, refuse_words, serve_still};
+use std::alloc::{AllocError, Global};
+use std::str;
+
+/// The arguments behind the program's own name.
+fn words_of(arguments: &[Seq<u8>]) -> &[Seq<u8>]
+    ensures { result.now ≡ words_of arguments.now }
+{
+    match arguments {
+        [] => &[],
+        [_, words @ ..] => words,
+    }
+}
+
+/// Whether each word is UTF-8.
+fn are_text(words: &[Seq<u8>]) -> bool
+    ensures { IsTrue result ↔ AreText words.now }
+{
+    for word in words {
+        let Ok(_) = str::from_utf8(word.as_slice()) else {
+            return false;
+        };
+    }
+    true
+}
+
+/// The words as `serve_still` takes them.
+fn to_words(alloc: Global, texts: &[Seq<u8>]) -> Result<Words, AllocError>
+    requires { AreText texts.now }
+    ensures { IfOk result (λ words. words ≡ texts.now) }
+{
+    let mut words = Words::new(alloc);
+    for text in texts {
+        let Ok(word) = str::from_utf8(text.as_slice()) else {
+            unreachable!()
+        };
+        words.add(alloc, word)?;
+    }
+    Ok(words)
+}
+
+/// Does what the arguments of a program say, of which the first is its own name and is not looked
+/// at, and answers the status that the program ends with.
+///
+/// The words behind it go to `serve_still` as they are; where one isn't UTF-8 they are refused.
+/// Arguments that could not be had for want of memory are answered as such.
+pub fn serve_arguments<F: Shelf, O: Sink, E: Sink>(
+    alloc: Global,
+    arguments: Result<Seq<Seq<u8>>, AllocError>,
+    shelf: &mut F,
+    out: &mut O,
+    err: &mut E,
+) -> u8
+    // The answer is that to the words.
+    ensures answer { OfWords arguments (λ words.
+        Answer words (F.state shelf.old) (F.state shelf.new) (O.state out.old) (O.state out.new)
+        (E.state err.old) (E.state err.new) result) }
+    // Words that aren't UTF-8 are refused, whatever memory there is, and arguments that could not be had are told.
+    ensures not_text { WhereNotText arguments (Says 2 (E.state err.old) (E.state err.new) words_refused result) }
+    ensures not_had { OnErr arguments (WantsMemory (E.state err.old) (E.state err.new) result) }
+    // Refused words are told as such, unless memory runs out.
+    ensures refused { OfWords arguments (λ words. operand_of words ≡ None →
+        Says 2 (E.state err.old) (E.state err.new) words_refused result ⊎
+        WantsMemory (E.state err.old) (E.state err.new) result) }
+    // Refused words don't call the shelf; arguments that give no words call neither it nor `out`.
+    ensures uncalled { OfWords arguments (λ words. operand_of words ≡ None → shelf.new ≡ shelf.old) }
+    ensures uncalled_not_text { WhereNotText arguments ((shelf.new ≡ shelf.old) × (out.new ≡ out.old)) }
+    ensures uncalled_not_had { OnErr arguments ((shelf.new ≡ shelf.old) × (out.new ≡ out.old)) }
+    // No count but PROGRAM's changes.
+    ensures others { OfWords arguments (λ words. (name : List ℕ) → operand_of words ≡ Some name →
+        ChangesNoOther (F.state shelf.old) (F.state shelf.new) name) }
+    // 4 comes only where a read of PROGRAM failed, and 5 only where a sink failed.
+    ensures read_cause { OfWords arguments (λ words. (name : List ℕ) → operand_of words ≡ Some name → result ≡ 4 →
+        FailedAt (F.state shelf.old) (F.state shelf.new) name) }
+    ensures write_cause { result ≡ 5 →
+        Failed (O.state out.old) (O.state out.new) ⊎ Failed (E.state err.old) (E.state err.new) }
+    // Where `out` failed the status is 5, and where `err` failed it is 4, 5 or 7.
+    ensures out_kept { result ≢ 5 → SameFaults (O.state out.old) (O.state out.new) }
+    ensures err_kept { result < 4 → SameFaults (E.state err.old) (E.state err.new) }
+{
+    let Ok(arguments) = arguments else {
+        return out_of_memory(err);
+    };
+    let words = words_of(arguments.as_slice());
+    if !are_text(words) {
+        return refuse_words(err);
+    }
+    match to_words(alloc, words) {
+        Ok(words) => serve_still(alloc, &words, shelf, out, err),
+        Err(_) => out_of_memory(err),
+    }
+}
+
+#[cfg(test)]
+mod tests;

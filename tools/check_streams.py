@@ -1,0 +1,256 @@
+#!/usr/bin/env python3
+"""Checks the built program over real files and streams.
+
+Run at the top of the repository, after `rt ci`, or `rt run` in crates/spd: they leave the program in
+crates/spd/out, and `rt ci` leaves it as each of two compilers builds it. Each row of ROWS is a command
+line with what its streams are, and the status, the bytes on standard output and those on standard
+error that must come. A stream that takes no bytes, or whose bytes can't be read again, has b"".
+"""
+
+import dataclasses
+import os
+import pathlib
+import resource
+import signal
+import subprocess
+import sys
+import tempfile
+import time
+
+PROGRAMS = [pathlib.Path("crates/spd/out/spd"), pathlib.Path("crates/spd/out/spd.by-rattle")]
+LONG = b"x" * 70_000
+MOST = 1_048_576
+SECONDS = 60
+
+# Enough to start in, and too little for some copies of a word of 100,000 bytes.
+MEMORY = 262_144
+
+FILES = {
+    b"a.sp": b'main { print "n=", 1+2; }\n',
+    b"blank.sp ": b"main { print 4; }\n",
+    b"empty.sp": b"",
+    b"none.sp": b"main { }\n",
+    b"three.sp": b'main { print "first"; print "second"; print "third"; }\n',
+    b"long.sp": b'main { print "' + LONG + b'"; print 1; }\n',
+    b"most.sp": b"main { print 8; }".ljust(MOST),
+    b"more.sp": b"main { print 8; }".ljust(MOST + 1),
+    "\u00e9.sp".encode(): b"main { print 5; }\n",
+}
+
+# What a stream is: a pipe that is read whole, closed, a device that is full, a pipe that nobody
+# reads, a pipe that is read in small parts while the program is stopped and goes on, a file, or a
+# file that has bytes, behind which it writes.
+PIPE, CLOSED, FULL, GONE, SLOW, FILE, APPENDED = "pipe closed full gone slow file appended".split()
+
+BEFORE = b"before\n"
+THREE = b"first\nsecond\nthird\n"
+
+
+@dataclasses.dataclass
+class Row:
+    """A command line, its streams, and what must come of it."""
+
+    what: str
+    words: list
+    status: int
+    out: bytes = b""
+    err: bytes = b""
+    name: bytes = b"spd"
+    out_is: str = PIPE
+    err_is: str = PIPE
+    most_bytes: int | None = None
+    most_memory: int | None = None
+
+
+REFUSED = b"spd: words refused\n"
+NOT_WRITTEN = b"spd: write failed\n"
+
+ROWS = [
+    Row("a program", [b"elide", b"a.sp"], 0, b"n=3\n"),
+    Row("a program that prints nothing", [b"elide", b"none.sp"], 0),
+    # Arguments.
+    Row("no words", [], 2, err=REFUSED),
+    Row("a word that isn't UTF-8", [b"elide", b"a.sp\xff"], 2, err=REFUSED),
+    Row("a command that isn't UTF-8", [b"\xe9lide", b"a.sp"], 2, err=REFUSED),
+    Row("a word too many that isn't UTF-8", [b"elide", b"a.sp", b"\xff"], 2, err=REFUSED),
+    Row("an empty word too many", [b"elide", b"a.sp", b""], 2, err=REFUSED),
+    Row("an empty operand", [b"elide", b""], 2, err=REFUSED),
+    Row("a name of its own that isn't UTF-8", [b"elide", b"a.sp"], 0, b"n=3\n", name=b"\xffspd"),
+    Row("an empty name of its own", [b"elide", b"a.sp"], 0, b"n=3\n", name=b""),
+    Row("a word beyond ASCII", [b"elide", "\u00e9.sp".encode()], 0, b"5\n"),
+    Row("a word of 256 bytes", [b"elide", b"./" * 126 + b"a.sp"], 0, b"n=3\n"),
+    Row("a word of 1,000 bytes", [b"elide", b"./" * 498 + b"a.sp"], 0, b"n=3\n"),
+    Row("a word of 100,000 bytes", [b"elide", b"y" * 100_000], 4, err=b"spd: " + b"y" * 100_000 + b": read failed\n"),
+    Row("too little memory for a word", [b"elide", b"y" * 100_000], 7, err=b"spd: out of memory\n", most_memory=MEMORY),
+    # Files.
+    Row("a name with a blank at its end", [b"elide", b"blank.sp "], 0, b"4\n"),
+    Row("that name without its blank", [b"elide", b"blank.sp"], 4, err=b"spd: blank.sp: read failed\n"),
+    Row("a blank before a name", [b"elide", b" a.sp"], 4, err=b"spd:  a.sp: read failed\n"),
+    Row("an empty file", [b"elide", b"empty.sp"], 1, err=b"spd: empty.sp: NotBuilt\n"),
+    Row("a file of the greatest size", [b"elide", b"most.sp"], 0, b"8\n"),
+    Row("a file of a byte more", [b"elide", b"more.sp"], 1, err=b"spd: more.sp: TooLong\n"),
+    Row("a missing file", [b"elide", b"missing.sp"], 4, err=b"spd: missing.sp: read failed\n"),
+    Row("a folder", [b"elide", b"folder"], 4, err=b"spd: folder: read failed\n"),
+    Row("a name below a file", [b"elide", b"a.sp/b.sp"], 4, err=b"spd: a.sp/b.sp: read failed\n"),
+    # Standard output.
+    Row("a closed output", [b"elide", b"a.sp"], 5, err=NOT_WRITTEN, out_is=CLOSED),
+    Row("a closed output that gets nothing", [b"elide", b"none.sp"], 0, out_is=CLOSED),
+    Row("a full output", [b"elide", b"a.sp"], 5, err=NOT_WRITTEN, out_is=FULL),
+    Row("an output that nobody reads", [b"elide", b"a.sp"], 5, err=NOT_WRITTEN, out_is=GONE),
+    Row("a long string", [b"elide", b"long.sp"], 0, LONG + b"\n1\n"),
+    Row("an output that is taken in parts", [b"elide", b"long.sp"], 0, LONG + b"\n1\n", out_is=SLOW),
+    Row("a long string into a file", [b"elide", b"long.sp"], 0, LONG + b"\n1\n", out_is=FILE),
+    Row("an output behind a file's bytes", [b"elide", b"a.sp"], 0, BEFORE + b"n=3\n", out_is=APPENDED),
+    # A limit on the sizes of files.
+    Row("a file that ends at its limit", [b"elide", b"three.sp"], 0, THREE, out_is=FILE, most_bytes=len(THREE)),
+    Row("a file a byte too small", [b"elide", b"three.sp"], 5, THREE[:-1], NOT_WRITTEN, out_is=FILE, most_bytes=len(THREE) - 1),
+    Row("a file that ends in a piece", [b"elide", b"three.sp"], 5, THREE[:10], NOT_WRITTEN, out_is=FILE, most_bytes=10),
+    Row("a file that ends behind a piece", [b"elide", b"three.sp"], 5, THREE[:6], NOT_WRITTEN, out_is=FILE, most_bytes=6),
+    Row("a file that may get nothing", [b"elide", b"three.sp"], 5, b"", NOT_WRITTEN, out_is=FILE, most_bytes=0),
+    Row("a limit behind a file's bytes", [b"elide", b"three.sp"], 5, BEFORE + THREE[:2], NOT_WRITTEN, out_is=APPENDED, most_bytes=len(BEFORE) + 2),
+    Row("a limit within a file's bytes", [b"elide", b"three.sp"], 5, BEFORE, NOT_WRITTEN, out_is=APPENDED, most_bytes=3),
+    Row("a limit where no file is written", [b"elide", b"three.sp"], 0, THREE, most_bytes=0),
+    Row("a limit in an error's line", [], 5, err=REFUSED[:5], err_is=FILE, most_bytes=5),
+    Row("a limit in both streams", [b"elide", b"three.sp"], 5, THREE[:4], NOT_WRITTEN[:4], out_is=FILE, err_is=FILE, most_bytes=4),
+    # Standard error.
+    Row("a closed error stream", [], 5, err_is=CLOSED),
+    Row("a full error stream", [], 5, err_is=FULL),
+    Row("an error stream that nobody reads", [], 5, err_is=GONE),
+    Row("a full error stream at a refused program", [b"elide", b"empty.sp"], 5, err_is=FULL),
+    Row("a full error stream at a missing file", [b"elide", b"missing.sp"], 4, err_is=FULL),
+    Row("a full error stream that gets nothing", [b"elide", b"a.sp"], 0, b"n=3\n", err_is=FULL),
+    Row("two full streams", [b"elide", b"a.sp"], 5, out_is=FULL, err_is=FULL),
+    Row("two closed streams", [b"elide", b"a.sp"], 5, out_is=CLOSED, err_is=CLOSED),
+]
+
+
+def opened(is_what, at):
+    """What `Popen` is to be given for a stream: a file object, a pipe of its own, or nothing."""
+    if is_what in (PIPE, SLOW):
+        return subprocess.PIPE
+    if is_what == FULL:
+        return open("/dev/full", "wb")
+    if is_what == GONE:
+        reads, writes = os.pipe()
+        os.close(reads)
+        return open(writes, "wb")
+    if is_what == FILE:
+        return open(at, "wb")
+    if is_what == APPENDED:
+        at.write_bytes(BEFORE)
+        # In the mode "ab" the place would be the file's end before the program writes.
+        return open(os.open(at, os.O_WRONLY | os.O_APPEND), "wb")
+    return None
+
+
+def prepare(row):
+    """What the process does before the program: it closes streams, and sets the limits."""
+    for at, is_what in ((1, row.out_is), (2, row.err_is)):
+        if is_what == CLOSED:
+            os.close(at)
+    limits = ((resource.RLIMIT_CORE, 0), (resource.RLIMIT_FSIZE, row.most_bytes), (resource.RLIMIT_DATA, row.most_memory))
+    for what, most in limits:
+        if most is not None:
+            resource.setrlimit(what, (most, resource.getrlimit(what)[1]))
+
+
+def wait_until_asleep(process):
+    """Waits until the program sleeps, as in a write to a pipe that is full, or has ended."""
+    stat = pathlib.Path(f"/proc/{process.pid}/stat")
+    for _ in range(1000):
+        if stat.read_bytes().rpartition(b") ")[2][:1] in (b"S", b"Z"):
+            return
+        time.sleep(0.01)
+
+
+def read_slowly(process):
+    """Reads standard output in small parts. Three times the program is stopped in its write, which so takes only a part."""
+    got = b""
+    while True:
+        if len(got) < 3000:
+            wait_until_asleep(process)
+            process.send_signal(signal.SIGSTOP)
+            process.send_signal(signal.SIGCONT)
+        part = os.read(process.stdout.fileno(), 1000)
+        if not part:
+            return got
+        got += part
+
+
+def run(program, row, folder):
+    """The status and the bytes that came: less than 0 where a signal ended the program."""
+    files = [folder / "out", folder / "err"]
+    streams = [opened(is_what, at) for is_what, at in zip((row.out_is, row.err_is), files)]
+    process = subprocess.Popen(
+        [row.name, *row.words],
+        executable=program.resolve(),
+        cwd=folder,
+        stdin=subprocess.DEVNULL,
+        stdout=streams[0],
+        stderr=streams[1],
+        preexec_fn=lambda: prepare(row),
+    )
+    try:
+        slow = read_slowly(process) if row.out_is == SLOW else b""
+        out, err = process.communicate(timeout=SECONDS)
+    finally:
+        process.kill()
+    got = [slow + (out or b""), err or b""]
+    for at, (is_what, stream, file) in enumerate(zip((row.out_is, row.err_is), streams, files)):
+        if is_what in (FULL, GONE, FILE, APPENDED):
+            stream.close()
+        if is_what in (FILE, APPENDED):
+            got[at] = file.read_bytes()
+    return process.returncode, *got
+
+
+def short(text):
+    """Bytes as a fault shows them."""
+    return repr(text if len(text) <= 60 else text[:30] + b" .. " + text[-26:])
+
+
+def faults_of(program, folder):
+    """What the rows gave that they should not."""
+    faults = []
+    for row in ROWS:
+        for what, got, wanted in zip(
+            ("status", "standard output", "standard error"),
+            run(program, row, folder),
+            (row.status, row.out, row.err),
+        ):
+            if got != wanted:
+                shown = [it if what == "status" else short(it) for it in (got, wanted)]
+                faults.append(f"{program}: {row.what}: {what} {shown[0]}, and not {shown[1]}")
+    return faults
+
+
+def is_stale(program):
+    """Whether a source is newer than the program."""
+    built = program.stat().st_mtime
+    return any(it.stat().st_mtime > built for it in pathlib.Path("crates").glob("*/src/**/*.rt"))
+
+
+def main():
+    programs = [it for it in PROGRAMS if it.exists()]
+    faults = [f"{it}: a source is newer: run `rt ci` or `rt run`" for it in programs if is_stale(it)]
+    if not programs:
+        faults.append(f"{PROGRAMS[0]}: not built: run `rt ci`, or `rt run` in crates/spd")
+    if {row.status for row in ROWS} != {0, 1, 2, 4, 5, 7}:
+        faults.append("the rows don't have each of the statuses 0, 1, 2, 4, 5 and 7")
+    if not faults:
+        with tempfile.TemporaryDirectory(prefix="spd-streams-") as folder:
+            folder = pathlib.Path(folder)
+            (folder / "folder").mkdir()
+            for name, text in FILES.items():
+                (folder / os.fsdecode(name)).write_bytes(text)
+            for program in programs:
+                faults += faults_of(program, folder)
+    for fault in faults:
+        print(fault)
+    if faults:
+        sys.exit(1)
+    print(f"streams: {len(ROWS)} rows came as expected, of {len(programs)} builds")
+
+
+if __name__ == "__main__":
+    main()
