@@ -1,0 +1,81 @@
+// What the commands answer over files and sinks in memory, compared with what a row says.
+
+use spd_io::{MemShelf, MemSink, Shelf, Sink};
+use spd_top::{Words, serve_still};
+use std::alloc::{AllocError, Global};
+use std::process::Abort;
+
+/// The bytes that out and err get, and the status.
+pub(crate) type Answer = (&'static [u8], &'static [u8], u8);
+
+pub(crate) const NOT_BUILT: Answer = (b"", b"spd: a.sp: NotBuilt\n", 1);
+
+/// The calls that are to fail: of the shelf, of out and of err. 0 is none.
+pub(crate) type Failing = (u32, u32, u32);
+
+pub(crate) fn words_of(alloc: Global, words: &[&str]) -> Result<Words, AllocError> {
+    let mut all = Words::new(alloc);
+    for word in words {
+        all.add(alloc, word)?;
+    }
+    Ok(all)
+}
+
+/// A sink with room for 64 bytes, of which a call is to fail, or none for 0.
+pub(crate) fn sink_failing_at(alloc: Global, call: u32) -> Result<MemSink, AllocError> {
+    let mut sink = MemSink::new(alloc, 64)?;
+    sink.fail_at(call)?;
+    Ok(sink)
+}
+
+/// The status that words are answered with. That it has no contract keeps the proofs of tests short.
+fn status_of<F: Shelf, O: Sink, E: Sink>(
+    alloc: Global,
+    words: &Words,
+    shelf: &mut F,
+    out: &mut O,
+    err: &mut E,
+) -> u8 {
+    serve_still(alloc, words, shelf, out, err)
+}
+
+/// Asserts what is answered to words where these calls are to fail.
+pub(crate) fn expect(
+    rt: &(impl Abort + AllocGlobal),
+    words: &[&str],
+    shelf: &mut MemShelf,
+    (read, out_call, err_call): Failing,
+    (out_gets, err_gets, status): Answer,
+    row: &str,
+) -> Result<(), AllocError> {
+    let words = words_of(rt.alloc(), words)?;
+    shelf.fail_at(read)?;
+    let mut out = sink_failing_at(rt.alloc(), out_call)?;
+    let mut err = sink_failing_at(rt.alloc(), err_call)?;
+    let answer = status_of(rt.alloc(), &words, shelf, &mut out, &mut err);
+    assert_eq!(rt; answer, status, "{row}");
+    assert_eq!(rt; out.bytes(), out_gets, "out of {row}");
+    assert_eq!(rt; err.bytes(), err_gets, "err of {row}");
+    Ok(())
+}
+
+/// Asserts what is answered to `elide` of a program where no call fails.
+pub(crate) fn expect_of(
+    rt: &(impl Abort + AllocGlobal),
+    text: &[u8],
+    answer: Answer,
+) -> Result<(), AllocError> {
+    let mut shelf = MemShelf::new(rt.alloc());
+    shelf.add(rt.alloc(), "a.sp", text)?;
+    let row = String::from_utf8_lossy(rt.alloc(), text)?;
+    expect(rt, &["elide", "a.sp"], &mut shelf, (0, 0, 0), answer, &row)
+}
+
+/// Asserts what a program prints.
+pub(crate) fn expect_prints(
+    rt: &(impl Abort + AllocGlobal),
+    text: &[u8],
+    prints: &'static [u8],
+) -> Result<(), AllocError> {
+    expect_of(rt, text, (prints, b"", 0))
+}
