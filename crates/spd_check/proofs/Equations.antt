@@ -13,14 +13,14 @@ use Rattle.spd_check.specs.Checks.{Checked, CheckedKind, statement_checked, kind
 use Rattle.spd_check.specs.Resolved as resolved
 use Rattle.spd_check.specs.Resolved.{Resolved, statement_resolved, kind_resolved}
 
-pub checked_let_finish : (name : List ℕ) (kind : Collect) (body : List Stmt) → kind_checked (v.LetFinish name kind body) ≡ checks.kind_step (s.LetFinish name kind (map statement_checked body))
-checked_let_finish name kind body = ap kind_checked (sym (v.rolls-LetFinish name kind body)) ∙ fold-roll-StmtKind CheckedKind Checked checks.kind_step checks.line_step (s.LetFinish name kind body)
+pub checked_let_finish : (name : List ℕ) (kind : Collect) (body : List Stmt) → kind_checked (v.LetFinish name kind body) ≡ checks.check_kind_step (s.LetFinish name kind (map statement_checked body))
+checked_let_finish name kind body = ap kind_checked (sym (v.rolls-LetFinish name kind body)) ∙ fold-roll-StmtKind CheckedKind Checked checks.check_kind_step checks.check_line_step (s.LetFinish name kind body)
 
-pub resolved_let_finish : (name : List ℕ) (kind : Collect) (body : List Stmt) → kind_resolved (v.LetFinish name kind body) ≡ resolved.kind_step (s.LetFinish name kind (map statement_resolved body))
-resolved_let_finish name kind body = ap kind_resolved (sym (v.rolls-LetFinish name kind body)) ∙ fold-roll-StmtKind (Resolved CodeStmtKind) (Resolved CodeStmt) resolved.kind_step resolved.line_step (s.LetFinish name kind body)
+pub resolved_let_finish : (name : List ℕ) (kind : Collect) (body : List Stmt) → kind_resolved (v.LetFinish name kind body) ≡ resolved.resolve_kind_step (s.LetFinish name kind (map statement_resolved body))
+resolved_let_finish name kind body = ap kind_resolved (sym (v.rolls-LetFinish name kind body)) ∙ fold-roll-StmtKind (Resolved CodeStmtKind) (Resolved CodeStmt) resolved.resolve_kind_step resolved.resolve_line_step (s.LetFinish name kind body)
 
-pub checked_offer : (value : Expr) → kind_checked (v.Offer value) ≡ checks.kind_step (s.Offer value)
-checked_offer value = ap kind_checked (sym (v.rolls-Offer value)) ∙ fold-roll-StmtKind CheckedKind Checked checks.kind_step checks.line_step (s.Offer value)
+pub checked_offer : (value : Expr) → kind_checked (v.Offer value) ≡ checks.check_kind_step (s.Offer value)
+checked_offer value = ap kind_checked (sym (v.rolls-Offer value)) ∙ fold-roll-StmtKind CheckedKind Checked checks.check_kind_step checks.check_line_step (s.Offer value)
 
-pub resolved_offer : (value : Expr) → kind_resolved (v.Offer value) ≡ resolved.kind_step (s.Offer value)
-resolved_offer value = ap kind_resolved (sym (v.rolls-Offer value)) ∙ fold-roll-StmtKind (Resolved CodeStmtKind) (Resolved CodeStmt) resolved.kind_step resolved.line_step (s.Offer value)
+pub resolved_offer : (value : Expr) → kind_resolved (v.Offer value) ≡ resolved.resolve_kind_step (s.Offer value)
+resolved_offer value = ap kind_resolved (sym (v.rolls-Offer value)) ∙ fold-roll-StmtKind (Resolved CodeStmtKind) (Resolved CodeStmt) resolved.resolve_kind_step resolved.resolve_line_step (s.Offer value)

@@ -9,15 +9,15 @@ use Rattle.spd_check.specs.declared.code.CodeStmtKind.{CodeStmtKind, out-CodeStm
 use Rattle.spd_check.specs.declared.code.CodeStmt.{CodeStmt, out-CodeStmt}
 use Rattle.spd_check.specs.declared.code.CodeBlock.{CodeBlock, out-CodeBlock, out-roll-CodeBlock}
 use Rattle.spd_check.specs.Names.{Names}
-use Rattle.spd_check.specs.Resolved.{Resolved, kind_step, line_step, kind_code, kind_blocks, blocks_in, statement_resolved, kind_resolved, statements_code, code_of}
+use Rattle.spd_check.specs.Resolved.{Resolved, resolve_kind_step, resolve_line_step, kind_code, kind_blocks, blocks_in, statement_resolved, kind_resolved, statements_code, resolved_block}
 use Rattle.spd_check.specs.Blocks.{block_at, StandsIn, itself, deeper, IsBlock, HasBlock}
 use Rattle.spd_check.specs.Finding.{IsCoded, IsIn, nexts}
 
 -- ---- one statement
 
 -- The block of a statement is the code of its statements, from the next number on.
-kind_body : (k : s.StmtKind-F StmtKind Stmt) (names : Names) (next : ℕ) (body : CodeBlock) → block_at (out-CodeStmtKind (kind_code (map-StmtKind StmtKind Stmt (Resolved CodeStmtKind) (Resolved CodeStmt) kind_resolved statement_resolved k) names next)) ≡ Some body → (inner : List Stmt) × (body ≡ code_of names next inner) × (kind_blocks (map-StmtKind StmtKind Stmt (Resolved CodeStmtKind) (Resolved CodeStmt) kind_resolved statement_resolved k) ≡ suc (blocks_in (map statement_resolved inner)))
-unfolding out-CodeStmtKind denote.Hole.Carrier.out code_of
+kind_body : (k : s.StmtKind-F StmtKind Stmt) (names : Names) (next : ℕ) (body : CodeBlock) → block_at (out-CodeStmtKind (kind_code (map-StmtKind StmtKind Stmt (Resolved CodeStmtKind) (Resolved CodeStmt) kind_resolved statement_resolved k) names next)) ≡ Some body → (inner : List Stmt) × (body ≡ resolved_block names next inner) × (kind_blocks (map-StmtKind StmtKind Stmt (Resolved CodeStmtKind) (Resolved CodeStmt) kind_resolved statement_resolved k) ≡ suc (blocks_in (map statement_resolved inner)))
+unfolding out-CodeStmtKind denote.Hole.Carrier.out resolved_block
 kind_body (s.Let name value) names next body e = absurd cc
 kind_body (s.LetFinish name kind inner) names next body e = (inner, cc, refl)
 kind_body (s.Async inner) names next body e = (inner, cc, refl)
@@ -25,17 +25,17 @@ kind_body (s.Finish inner) names next body e = (inner, cc, refl)
 kind_body (s.Offer value) names next body e = absurd cc
 kind_body (s.Print parts) names next body e = absurd cc
 
-stmt_is : (s : Stmt) → statement_resolved s ≡ line_step (record { line = s.line; what = kind_resolved s.what })
-stmt_is s = fold_out-Stmt (Resolved CodeStmtKind) (Resolved CodeStmt) kind_step line_step s
+stmt_is : (s : Stmt) → statement_resolved s ≡ resolve_line_step (record { line = s.line; what = kind_resolved s.what })
+stmt_is s = fold_out-Stmt (Resolved CodeStmtKind) (Resolved CodeStmt) resolve_kind_step resolve_line_step s
 
-kind_is : (k : StmtKind) → kind_resolved k ≡ kind_step (map-StmtKind StmtKind Stmt (Resolved CodeStmtKind) (Resolved CodeStmt) kind_resolved statement_resolved (out-StmtKind k))
-kind_is k = fold_out-StmtKind (Resolved CodeStmtKind) (Resolved CodeStmt) kind_step line_step k
+kind_is : (k : StmtKind) → kind_resolved k ≡ resolve_kind_step (map-StmtKind StmtKind Stmt (Resolved CodeStmtKind) (Resolved CodeStmt) kind_resolved statement_resolved (out-StmtKind k))
+kind_is k = fold_out-StmtKind (Resolved CodeStmtKind) (Resolved CodeStmt) resolve_kind_step resolve_line_step k
 
 stmt_next : (s : Stmt) (names : Names) (next : ℕ) → (out-CodeStmt ((statement_resolved s).code names next)).next_block ≡ next
 stmt_next s names next = rw (stmt_is s) refl
 
-out_code : (names : Names) (next : ℕ) (stmts : List Stmt) → out-CodeBlock (code_of names next stmts) ≡ record { number = next; stmts = statements_code (map statement_resolved stmts) names (suc next) }
-unfolding code_of
+out_code : (names : Names) (next : ℕ) (stmts : List Stmt) → out-CodeBlock (resolved_block names next stmts) ≡ record { number = next; stmts = statements_code (map statement_resolved stmts) names (suc next) }
+unfolding resolved_block
 out_code names next stmts = out-roll-CodeBlock (record { number = next; stmts = statements_code (map statement_resolved stmts) names (suc next) })
 
 -- ---- the statements of a block
@@ -48,11 +48,11 @@ blocks_before stmts place = blocks_in (map statement_resolved (take place stmts)
 record BodyAt (stmts : List Stmt) (next place : ℕ) (body : CodeBlock) : Type 0 where
   names : Names
   inner : List Stmt
-  is : body ≡ code_of names (next + blocks_before stmts place) inner
+  is : body ≡ resolved_block names (next + blocks_before stmts place) inner
   end : next + blocks_before stmts place + suc (blocks_in (map statement_resolved inner)) ≡ next + blocks_before stmts (suc place)
   within : place < length stmts
 
-one_body : (first : Stmt) (names : Names) (next : ℕ) (stmt : CodeStmt) (body : CodeBlock) → stmt ≡ (statement_resolved first).code names next → block_at (out-CodeStmtKind (out-CodeStmt stmt).what) ≡ Some body → (inner : List Stmt) × (body ≡ code_of names next inner) × ((statement_resolved first).blocks ≡ suc (blocks_in (map statement_resolved inner)))
+one_body : (first : Stmt) (names : Names) (next : ℕ) (stmt : CodeStmt) (body : CodeBlock) → stmt ≡ (statement_resolved first).code names next → block_at (out-CodeStmtKind (out-CodeStmt stmt).what) ≡ Some body → (inner : List Stmt) × (body ≡ resolved_block names next inner) × ((statement_resolved first).blocks ≡ suc (blocks_in (map statement_resolved inner)))
 one_body first names next stmt body e f =
     let h = kind_body (out-StmtKind first.what) names next body (rw (e, stmt_is first, kind_is first.what) at f) in
     (h.0, h.1, ap (λ r. r.blocks) (stmt_is first) ∙ (ap (λ r. r.blocks) (kind_is first.what) ∙ h.2))
@@ -61,10 +61,10 @@ body_at : (stmts : List Stmt) (names : Names) (next place : ℕ) (stmt : CodeStm
 body_at [] names next place stmt body e f = absurd cc
 body_at (first ∷ stmts) names next zero stmt body e f =
     let one = one_body first names next stmt body (cc) f in
-    record { names = names; inner = one.0; is = one.1 ∙ ap (λ n. code_of names n one.0) (omega arith); end = omega (arith, one.2); within = omega arith }
+    record { names = names; inner = one.0; is = one.1 ∙ ap (λ n. resolved_block names n one.0) (omega arith); end = omega (arith, one.2); within = omega arith }
 body_at (first ∷ stmts) names next (suc place) stmt body e f =
     let below = body_at stmts (names ++ (statement_resolved first).binds) (next + (statement_resolved first).blocks) place stmt body e f in
-    record { names = below.names; inner = below.inner; is = below.is ∙ ap (λ n. code_of below.names n below.inner) (omega arith); end = omega (arith, below.end); within = omega (arith, below.within) }
+    record { names = below.names; inner = below.inner; is = below.is ∙ ap (λ n. resolved_block below.names n below.inner) (omega arith); end = omega (arith, below.end); within = omega (arith, below.within) }
 
 -- The next block of a statement is behind those of the statements before it.
 next_at : (stmts : List Stmt) (names : Names) (next place : ℕ) → place < length stmts → get_or (nexts (statements_code (map statement_resolved stmts) names next)) place 0 ≡ next + blocks_before stmts place
@@ -87,7 +87,7 @@ all_before (first ∷ stmts) = omega (arith, all_before stmts)
 -- ---- the blocks in a block
 
 -- A block in the code of statements has a number from the next one on, below that behind them.
-in_range : (block outer : CodeBlock) → StandsIn block outer → (names : Names) (next : ℕ) (stmts : List Stmt) → outer ≡ code_of names next stmts → (next ≤ (out-CodeBlock block).number) × ((out-CodeBlock block).number < next + suc (blocks_in (map statement_resolved stmts)))
+in_range : (block outer : CodeBlock) → StandsIn block outer → (names : Names) (next : ℕ) (stmts : List Stmt) → outer ≡ resolved_block names next stmts → (next ≤ (out-CodeBlock block).number) × ((out-CodeBlock block).number < next + suc (blocks_in (map statement_resolved stmts)))
 in_range block outer (itself _) names next stmts e =
     let number = ap (λ b. (out-CodeBlock b).number) e ∙ ap (λ b. b.number) (out_code names next stmts) in
     (omega arith, omega arith)

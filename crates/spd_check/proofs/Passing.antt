@@ -35,7 +35,7 @@ binds_mapped f g h k (s.Offer value) = refl
 binds_mapped f g h k (s.Print parts) = refl
 
 kind_binds : (kind : StmtKind) → (kind_checked kind).0 ≡ (kind_resolved kind).binds
-kind_binds kind = ap (λ r. r.0) (fold_out-StmtKind CheckedKind Checked checks.kind_step checks.line_step kind) ∙ (binds_mapped kind_checked statement_checked kind_resolved statement_resolved (out-StmtKind kind) ∙ sym (ap (λ r. r.binds) (fold_out-StmtKind (Resolved CodeStmtKind) (Resolved CodeStmt) resolved.kind_step resolved.line_step kind)))
+kind_binds kind = ap (λ r. r.0) (fold_out-StmtKind CheckedKind Checked checks.check_kind_step checks.check_line_step kind) ∙ (binds_mapped kind_checked statement_checked kind_resolved statement_resolved (out-StmtKind kind) ∙ sym (ap (λ r. r.binds) (fold_out-StmtKind (Resolved CodeStmtKind) (Resolved CodeStmt) resolved.resolve_kind_step resolved.resolve_line_step kind)))
 
 pub statement_binds : (s : Stmt) → (statement_checked s).0 ≡ (statement_resolved s).binds
-statement_binds s = ap (λ r. r.0) (fold_out-Stmt CheckedKind Checked checks.kind_step checks.line_step s) ∙ (kind_binds s.what ∙ sym (ap (λ r. r.binds) (fold_out-Stmt (Resolved CodeStmtKind) (Resolved CodeStmt) resolved.kind_step resolved.line_step s)))
+statement_binds s = ap (λ r. r.0) (fold_out-Stmt CheckedKind Checked checks.check_kind_step checks.check_line_step s) ∙ (kind_binds s.what ∙ sym (ap (λ r. r.binds) (fold_out-Stmt (Resolved CodeStmtKind) (Resolved CodeStmt) resolved.resolve_kind_step resolved.resolve_line_step s)))

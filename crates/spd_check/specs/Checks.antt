@@ -24,13 +24,13 @@ fault_where false line kind = []
 
 -- ---- expressions: each name is visible
 
-abbrev pub expression_step : Names → ℕ → Expr-F Faults → Faults
-expression_step names line (Expr-F.Number n) = []
-expression_step names line (Expr-F.Var name) = fault_where (if is_visible names name then false else true) line Unknown
-expression_step names line (Expr-F.Binary op left right) = left ++ right
+abbrev pub check_expression_step : Names → ℕ → Expr-F Faults → Faults
+check_expression_step names line (Expr-F.Number n) = []
+check_expression_step names line (Expr-F.Var name) = fault_where (if is_visible names name then false else true) line Unknown
+check_expression_step names line (Expr-F.Binary op left right) = left ++ right
 
 abbrev pub expression_faults : Names → ℕ → Expr → Faults
-expression_faults names line = fold-Expr Faults (expression_step names line)
+expression_faults names line = fold-Expr Faults (check_expression_step names line)
 
 abbrev pub part_faults : Names → ℕ → PrintPart → Faults
 part_faults names line (p.Lit text) = []
@@ -71,17 +71,17 @@ kind_faults (s.Finish body) line names inside = block_faults body names
 kind_faults (s.Offer value) line names inside = outside inside line OfferOutside ++ expression_faults names line value
 kind_faults (s.Print parts) line names inside = fault_where inside line PrintPlace ++ flat_map (part_faults names line) parts
 
-abbrev pub kind_step : s.StmtKind-F CheckedKind Checked → CheckedKind
-kind_step kind = (binds kind, kind_faults kind)
+abbrev pub check_kind_step : s.StmtKind-F CheckedKind Checked → CheckedKind
+check_kind_step kind = (binds kind, kind_faults kind)
 
-abbrev pub line_step : s.Stmt-F CheckedKind Checked → Checked
-line_step s = (s.what.0, s.what.1 s.line)
+abbrev pub check_line_step : s.Stmt-F CheckedKind Checked → Checked
+check_line_step s = (s.what.0, s.what.1 s.line)
 
 abbrev pub statement_checked : Stmt → Checked
-statement_checked = fold-Stmt CheckedKind Checked kind_step line_step
+statement_checked = fold-Stmt CheckedKind Checked check_kind_step check_line_step
 
 abbrev pub kind_checked : StmtKind → CheckedKind
-kind_checked = fold-StmtKind CheckedKind Checked kind_step line_step
+kind_checked = fold-StmtKind CheckedKind Checked check_kind_step check_line_step
 
 -- the faults of statements where these names are visible, inside a finish or async block or not
 unfoldable pub faults_from : Names → Bool → List Stmt → Faults

@@ -5,7 +5,7 @@ use Rattle.spd_check.specs.declared.code.CodeStmtKind.{out-CodeStmtKind}
 use Rattle.spd_check.specs.declared.code.CodeStmt.{CodeStmt, out-CodeStmt}
 use Rattle.spd_check.specs.declared.code.CodeBlock.{CodeBlock, out-CodeBlock}
 use Rattle.spd_check.specs.Names.{Names}
-use Rattle.spd_check.specs.Resolved.{code_of}
+use Rattle.spd_check.specs.Resolved.{resolved_block}
 use Rattle.spd_check.specs.Blocks.{block_at, IsBlock}
 
 -- It is the code of some statements.
@@ -13,7 +13,7 @@ pub record IsCoded (block : CodeBlock) : Type 0 where
   pub names : Names
   pub next : ℕ
   pub stmts : List Stmt
-  pub is : block ≡ code_of names next stmts
+  pub is : block ≡ resolved_block names next stmts
 
 -- The blocks of this number in a block stand in the one of the statement at this place.
 abbrev pub IsIn : CodeBlock → ℕ → ℕ → Type 0

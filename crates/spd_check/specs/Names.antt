@@ -9,8 +9,8 @@ abbrev pub Names : Type 0
 Names = List (List ℕ)
 
 -- the names that a list of slices has
-abbrev pub seen : List (Bor (List ℕ)) → Names
-seen names = map (λ name. name.now) names
+abbrev pub name_texts : List (Bor (List ℕ)) → Names
+name_texts names = map (λ name. name.now) names
 
 abbrev pub is_visible : Names → List ℕ → Bool
 is_visible names name = list_any (λ other. bytes_eq other name) names

@@ -22,13 +22,13 @@ use Rattle.spd_check.specs.Names.{Names, place_of, binds}
 
 -- ---- expressions
 
-abbrev pub expression_step : Names → Expr-F CodeExpr → CodeExpr
-expression_step names (Expr-F.Number n) = e.Number n
-expression_step names (Expr-F.Var name) = e.Var (place_of names name)
-expression_step names (Expr-F.Binary op left right) = e.Binary op left right
+abbrev pub resolve_expression_step : Names → Expr-F CodeExpr → CodeExpr
+resolve_expression_step names (Expr-F.Number n) = e.Number n
+resolve_expression_step names (Expr-F.Var name) = e.Var (place_of names name)
+resolve_expression_step names (Expr-F.Binary op left right) = e.Binary op left right
 
 abbrev pub expression_code : Names → Expr → CodeExpr
-expression_code names = fold-Expr CodeExpr (expression_step names)
+expression_code names = fold-Expr CodeExpr (resolve_expression_step names)
 
 abbrev pub part_code : Names → PrintPart → CodePrintPart
 part_code names (p.Lit text) = q.Lit text
@@ -69,21 +69,21 @@ kind_code (s.Finish body) names next = c.Finish (block_code body names next)
 kind_code (s.Offer value) names next = c.Offer (expression_code names value)
 kind_code (s.Print parts) names next = c.Print (map (part_code names) parts)
 
-abbrev pub kind_step : s.StmtKind-F (Resolved CodeStmtKind) (Resolved CodeStmt) → Resolved CodeStmtKind
-kind_step kind = record { binds = binds kind; blocks = kind_blocks kind; code = kind_code kind }
+abbrev pub resolve_kind_step : s.StmtKind-F (Resolved CodeStmtKind) (Resolved CodeStmt) → Resolved CodeStmtKind
+resolve_kind_step kind = record { binds = binds kind; blocks = kind_blocks kind; code = kind_code kind }
 
-abbrev pub line_step : s.Stmt-F (Resolved CodeStmtKind) (Resolved CodeStmt) → Resolved CodeStmt
-line_step s = record {
+abbrev pub resolve_line_step : s.Stmt-F (Resolved CodeStmtKind) (Resolved CodeStmt) → Resolved CodeStmt
+resolve_line_step s = record {
   binds = s.what.binds;
   blocks = s.what.blocks;
   code = λ names next. record { line = s.line; next_block = next; what = s.what.code names next };
 }
 
 abbrev pub statement_resolved : Stmt → Resolved CodeStmt
-statement_resolved = fold-Stmt (Resolved CodeStmtKind) (Resolved CodeStmt) kind_step line_step
+statement_resolved = fold-Stmt (Resolved CodeStmtKind) (Resolved CodeStmt) resolve_kind_step resolve_line_step
 
 abbrev pub kind_resolved : StmtKind → Resolved CodeStmtKind
-kind_resolved = fold-StmtKind (Resolved CodeStmtKind) (Resolved CodeStmt) kind_step line_step
+kind_resolved = fold-StmtKind (Resolved CodeStmtKind) (Resolved CodeStmt) resolve_kind_step resolve_line_step
 
 -- ---- programs
 
@@ -96,9 +96,9 @@ body_of [] = []
 body_of (item ∷ items) = body_at item.what
 
 -- the code of statements that stand in a block where these names are visible, which has this number
-unfoldable pub code_of : Names → ℕ → List Stmt → CodeBlock
-code_of names next stmts = block_code (map statement_resolved stmts) names next
+unfoldable pub resolved_block : Names → ℕ → List Stmt → CodeBlock
+resolved_block names next stmts = block_code (map statement_resolved stmts) names next
 
 -- the code of main, whose block has the number 0
 abbrev pub main_code : Program → CodeBlock
-main_code program = code_of [] 0 (body_of program.items)
+main_code program = resolved_block [] 0 (body_of program.items)

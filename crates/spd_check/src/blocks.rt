@@ -1,7 +1,9 @@
+// Checking blocks and their statements, and their code.
+
 ghost use Rattle.std.specs.Prelude.{◌≡◌, ◌+◌, [], ◌++◌, map, suc, OnOk};
-ghost use Rattle.spd_check.specs.Names.{seen};
+ghost use Rattle.spd_check.specs.Names.{name_texts};
 ghost use Rattle.spd_check.specs.Checks.{Answers, kind_checked, statement_checked, faults_from};
-ghost use Rattle.spd_check.specs.Resolved.{kind_resolved, statement_resolved, blocks_in, code_of};
+ghost use Rattle.spd_check.specs.Resolved.{kind_resolved, statement_resolved, blocks_in, resolved_block};
 
 use crate::checks::{check_let, check_offer, check_print};
 use crate::code::{CodeBlock, CodeStmt, CodeStmtKind};
@@ -35,15 +37,17 @@ impl<'a> Checker<'a> {
 
     /// Checks the statements between two braces, inside a finish or async block or not.
     #[cycle(blocks)]
-    #[tactic(auto, using(crate::proofs::Passing::first_more, crate::proofs::Passing::statement_binds), unfolding(crate::specs::Checks::faults_from, crate::specs::Resolved::code_of))]
+    #[tactic(auto, using(crate::proofs::Passing::first_more, crate::proofs::Passing::statement_binds), unfolding(crate::specs::Checks::faults_from, crate::specs::Resolved::resolved_block))]
     pub(crate) fn check_block(
         &mut self,
         inside: bool,
         stmts: &'a Block,
     ) -> Result<CodeBlock, CheckFault>
-        ensures answer { Answers result (faults_from (seen self.old.names.items) inside stmts.now) (code_of (seen self.old.names.items) self.old.next_block stmts.now) }
-        ensures names { OnOk result (seen self.new.names.items ≡ seen self.old.names.items) }
-        ensures blocks { OnOk result (self.new.next_block ≡ self.old.next_block + suc (blocks_in (map statement_resolved stmts.now))) }
+        ensures answer { Answers result (faults_from (name_texts self.old.names.items) inside stmts.now)
+            (resolved_block (name_texts self.old.names.items) self.old.next_block stmts.now) }
+        ensures names { OnOk result (name_texts self.new.names.items ≡ name_texts self.old.names.items) }
+        ensures blocks { OnOk result (self.new.next_block ≡ self.old.next_block + suc
+            (blocks_in (map statement_resolved stmts.now))) }
     {
         let visible = self.names.len();
         let number = self.next_block;
@@ -62,9 +66,12 @@ impl<'a> Checker<'a> {
     /// Checks a statement, and makes the name visible that it binds.
     #[cycle(blocks)]
     fn check_stmt(&mut self, inside: bool, stmt: &'a Stmt) -> Result<CodeStmt, CheckFault>
-        ensures answer { Answers result ((statement_checked stmt.now).1 (seen self.old.names.items) inside) ((statement_resolved stmt.now).code (seen self.old.names.items) self.old.next_block) }
-        ensures names { OnOk result (seen self.new.names.items ≡ seen self.old.names.items ++ (statement_resolved stmt.now).binds) }
-        ensures blocks { OnOk result (self.new.next_block ≡ self.old.next_block + (statement_resolved stmt.now).blocks) }
+        ensures answer { Answers result ((statement_checked stmt.now).1 (name_texts self.old.names.items) inside)
+            ((statement_resolved stmt.now).code (name_texts self.old.names.items) self.old.next_block) }
+        ensures names { OnOk result (name_texts self.new.names.items ≡ name_texts self.old.names.items ++
+            (statement_resolved stmt.now).binds) }
+        ensures blocks { OnOk result (self.new.next_block ≡ self.old.next_block +
+            (statement_resolved stmt.now).blocks) }
     {
         let next_block = self.next_block;
         let what = self.check_kind(inside, stmt.line, &stmt.what)?;
@@ -77,15 +84,17 @@ impl<'a> Checker<'a> {
 
     /// Checks what a statement at a line does.
     #[cycle(blocks)]
-    #[tactic(auto, using(crate::proofs::Passing::first_more, crate::proofs::Passing::none_more), unfolding(crate::specs::Checks::faults_from, crate::specs::Resolved::code_of))]
+    #[tactic(auto, using(crate::proofs::Passing::first_more, crate::proofs::Passing::none_more), unfolding(crate::specs::Checks::faults_from, crate::specs::Resolved::resolved_block))]
     fn check_kind(
         &mut self,
         inside: bool,
         line: u32,
         what: &'a StmtKind,
     ) -> Result<CodeStmtKind, CheckFault>
-        ensures answer { Answers result ((kind_checked what.now).1 line (seen self.old.names.items) inside) ((kind_resolved what.now).code (seen self.old.names.items) self.old.next_block) }
-        ensures names { OnOk result (seen self.new.names.items ≡ seen self.old.names.items ++ (kind_resolved what.now).binds) }
+        ensures answer { Answers result ((kind_checked what.now).1 line (name_texts self.old.names.items) inside)
+            ((kind_resolved what.now).code (name_texts self.old.names.items) self.old.next_block) }
+        ensures names { OnOk result (name_texts self.new.names.items ≡ name_texts self.old.names.items ++
+            (kind_resolved what.now).binds) }
         ensures blocks { OnOk result (self.new.next_block ≡ self.old.next_block + (kind_resolved what.now).blocks) }
     {
         match what {

@@ -1,8 +1,10 @@
+// Checking what stands in one statement: names, expressions and the parts of a print.
+
 ghost use Rattle.std.specs.Prelude.{◌≡◌, ◌++◌, ◌∷◌, [], length, map, flat_map, OnOk, if◌then◌else◌, true, false};
 ghost use Rattle.spd_check.specs.declared.faults.CheckKind.TheVariants.{Unknown, OfferOutside, PrintPlace};
 ghost use Rattle.spd_check.specs.declared.code.CodeExpr.TheVariants.{Var};
 ghost use Rattle.spd_check.specs.declared.code.CodeStmtKind.TheVariants.{Let, Offer, Print};
-ghost use Rattle.spd_check.specs.Names.{seen, is_visible, place_of};
+ghost use Rattle.spd_check.specs.Names.{name_texts, is_visible, place_of};
 ghost use Rattle.spd_check.specs.Checks.{Answers, expression_faults, part_faults, twice, outside, fault_where};
 ghost use Rattle.spd_check.specs.Resolved.{expression_code, part_code};
 
@@ -16,7 +18,9 @@ use std::alloc::Global;
 
 /// The code of a name in an expression.
 fn check_name(names: &[&[u8]], line: u32, name: &[u8]) -> Result<CodeExpr, CheckFault>
-    ensures { Answers result (fault_where (if is_visible (seen names.now) name.now then false else true) line Unknown) (Var (place_of (seen names.now) name.now)) }
+    ensures { Answers result (fault_where (if is_visible (name_texts names.now) name.now then false else true) line
+        Unknown)
+        (Var (place_of (name_texts names.now) name.now)) }
 {
     let Some(place) = find(names, name) else {
         return Err(CheckFault {
@@ -34,7 +38,8 @@ fn check_expr(
     line: u32,
     expr: &Expr,
 ) -> Result<CodeExpr, CheckFault>
-    ensures { Answers result (expression_faults (seen names.now) line expr.now) (expression_code (seen names.now) expr.now) }
+    ensures { Answers result (expression_faults (name_texts names.now) line expr.now)
+        (expression_code (name_texts names.now) expr.now) }
 {
     match expr {
         Expr::Number(number) => Ok(CodeExpr::Number(*number)),
@@ -53,7 +58,8 @@ fn check_part(
     line: u32,
     part: &PrintPart,
 ) -> Result<CodePrintPart, CheckFault>
-    ensures { Answers result (part_faults (seen names.now) line part.now) (part_code (seen names.now) part.now) }
+    ensures { Answers result (part_faults (name_texts names.now) line part.now)
+        (part_code (name_texts names.now) part.now) }
 {
     match part {
         PrintPart::Lit(text) => Ok(CodePrintPart::Lit(Seq::from_slice(alloc, text.as_slice())?)),
@@ -67,7 +73,8 @@ fn check_parts(
     line: u32,
     parts: &Parts,
 ) -> Result<CodeParts, CheckFault>
-    ensures { Answers result (flat_map (part_faults (seen names.now) line) parts.now) (map (part_code (seen names.now)) parts.now) }
+    ensures { Answers result (flat_map (part_faults (name_texts names.now) line) parts.now)
+        (map (part_code (name_texts names.now)) parts.now) }
 {
     let mut checked = Seq::new(alloc);
     for part in parts.as_slice() {
@@ -84,8 +91,10 @@ pub(crate) fn check_let<'a>(
     name: &'a [u8],
     value: &Expr,
 ) -> Result<CodeStmtKind, CheckFault>
-    ensures answer { Answers result (expression_faults (seen names.old.items) line value.now ++ twice (seen names.old.items) name.now line) (Let (length (seen names.old.items)) (expression_code (seen names.old.items) value.now)) }
-    ensures names { OnOk result (seen names.new.items ≡ seen names.old.items ++ name.now ∷ []) }
+    ensures answer { Answers result (expression_faults (name_texts names.old.items) line value.now ++ twice
+        (name_texts names.old.items) name.now line)
+        (Let (length (name_texts names.old.items)) (expression_code (name_texts names.old.items) value.now)) }
+    ensures names { OnOk result (name_texts names.new.items ≡ name_texts names.old.items ++ name.now ∷ []) }
 {
     let value = check_expr(alloc, names, line, value)?;
     let name = bind(names, name, line)?;
@@ -99,7 +108,9 @@ pub(crate) fn check_offer(
     line: u32,
     value: &Expr,
 ) -> Result<CodeStmtKind, CheckFault>
-    ensures { Answers result (outside inside line OfferOutside ++ expression_faults (seen names.now) line value.now) (Offer (expression_code (seen names.now) value.now)) }
+    ensures { Answers result (outside inside line OfferOutside ++ expression_faults (name_texts names.now) line
+        value.now)
+        (Offer (expression_code (name_texts names.now) value.now)) }
 {
     if !inside {
         return Err(CheckFault {
@@ -118,7 +129,8 @@ pub(crate) fn check_print(
     line: u32,
     parts: &Parts,
 ) -> Result<CodeStmtKind, CheckFault>
-    ensures { Answers result (fault_where inside line PrintPlace ++ flat_map (part_faults (seen names.now) line) parts.now) (Print (map (part_code (seen names.now)) parts.now)) }
+    ensures { Answers result (fault_where inside line PrintPlace ++ flat_map (part_faults (name_texts names.now) line)
+        parts.now) (Print (map (part_code (name_texts names.now)) parts.now)) }
 {
     if inside {
         return Err(CheckFault {

@@ -1,3 +1,5 @@
+// A checked program: the tree with each name as a number.
+
 use spd_list::Seq;
 use spd_syntax::{BinOp, Collect, Lit};
 use sqlite_items::Boxed;

@@ -1,3 +1,5 @@
+// What a check refuses, and where.
+
 ghost use Rattle.std.specs.Prelude.{◌≡◌};
 ghost use Rattle.spd_check.specs.declared.faults.CheckKind.TheVariants.{NoMemory};
 

@@ -1,3 +1,5 @@
+// Finding the block of a number.
+
 ghost use Rattle.std.specs.Prelude.{◌≡◌, ◌+◌, ◌<◌, ◌≤◌, ◌≢◌, length, slice_index};
 ghost use Rattle.spd_check.specs.declared.code.CodeBlock.{CodeBlock, out-CodeBlock};
 ghost use Rattle.spd_check.specs.Blocks.{IsBlock, HasBlock};

@@ -1,13 +1,17 @@
+// The names that are visible at a place.
+
 ghost use Rattle.std.specs.Prelude.{◌≡◌, ◌++◌, ◌∷◌, [], length, if◌then◌else◌, Some, None, MatchResult, OnOk};
 ghost use Rattle.spd_check.specs.declared.faults.CheckKind.TheVariants.{NoMemory};
-ghost use Rattle.spd_check.specs.Names.{is_visible, place_of, seen};
+ghost use Rattle.spd_check.specs.Names.{is_visible, place_of, name_texts};
 ghost use Rattle.spd_check.specs.Checks.{Answers, twice};
 
 use crate::faults::{CheckFault, CheckKind};
 
 /// The place of a name among those that are visible.
 pub(crate) fn find(names: &[&[u8]], name: &[u8]) -> Option<usize>
-    ensures { result ≡ (if is_visible (seen names.now) name.now then Some (place_of (seen names.now) name.now) else None) }
+    ensures { result ≡ (if is_visible (name_texts names.now) name.now then Some
+        (place_of (name_texts names.now) name.now)
+        else None) }
 {
     for (place, other) in names.iter().enumerate() {
         if *other == name {
@@ -36,8 +40,9 @@ pub(crate) fn bind<'a>(
     name: &'a [u8],
     line: u32,
 ) -> Result<u32, CheckFault>
-    ensures answer { Answers result (twice (seen names.old.items) name.now line) (length (seen names.old.items)) }
-    ensures names { OnOk result (seen names.new.items ≡ seen names.old.items ++ name.now ∷ []) }
+    ensures answer { Answers result (twice (name_texts names.old.items) name.now line)
+        (length (name_texts names.old.items)) }
+    ensures names { OnOk result (name_texts names.new.items ≡ name_texts names.old.items ++ name.now ∷ []) }
 {
     if find(names, name).is_some() {
         return Err(CheckFault {

@@ -1,6 +1,8 @@
+// Checking a program as a whole.
+
 ghost use Rattle.std.specs.Prelude.{◌≡◌, [], Some, IfOk, IfErr, false};
 ghost use Rattle.spd_check.specs.Checks.{Answers, faults_of, faults_from, first};
-ghost use Rattle.spd_check.specs.Resolved.{main_code, code_of};
+ghost use Rattle.spd_check.specs.Resolved.{main_code, resolved_block};
 ghost use Rattle.spd_check.specs.Blocks.{IsChecked, IsBlock, HasBlock};
 ghost use Rattle.spd_check.specs.declared.code.CodeBlock.{CodeBlock};
 
@@ -53,7 +55,8 @@ impl Code {
 
 /// The statements of main, where it is the one item.
 fn body_of(program: &Program) -> Result<&Block, CheckFault>
-    ensures ok { IfOk result (λ body. (faults_of program.now ≡ faults_from [] false body.now) × (main_code program.now ≡ code_of [] 0 body.now)) }
+    ensures ok { IfOk result (λ body. (faults_of program.now ≡ faults_from [] false body.now) ×
+        (main_code program.now ≡ resolved_block [] 0 body.now)) }
     ensures err { IfErr result (λ fault. first (faults_of program.now) ≡ Some fault) }
 {
     match program.items.as_slice() {

@@ -1,3 +1,5 @@
+// The checks over trees that no text of the language gives.
+
 use crate::{CheckFault, CheckKind, CodeStmtKind, check};
 use spd_list::Seq;
 use spd_syntax::{Block, Expr, Item, ItemKind, Program, Stmt, StmtKind};

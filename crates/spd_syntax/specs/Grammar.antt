@@ -68,8 +68,8 @@ abbrev pub operator_mark : BinOp → Mark
 operator_mark Add = m.Plus
 
 -- A lower level binds more tightly; primaries have level 0.
-abbrev pub level_of : BinOp → ℕ
-level_of Add = 1
+abbrev pub binding_level : BinOp → ℕ
+binding_level Add = 1
 
 -- the levels that may stand on the left and on the right of an operator: the same level groups to the left
 abbrev pub left_level : BinOp → ℕ
@@ -85,7 +85,7 @@ top = 1
 abbrev pub IsAt : ℕ → Expression → Type 0
 IsAt level (literal l digits) = Unit {0}
 IsAt level (variable l text) = Unit {0}
-IsAt level (binary op x l y) = (level_of op ≤ level) × IsAt (left_level op) x × IsAt (right_level op) y
+IsAt level (binary op x l y) = (binding_level op ≤ level) × IsAt (left_level op) x × IsAt (right_level op) y
 
 -- the tokens, before those that follow
 abbrev pub expression_tokens : Expression → List Seen → List Seen

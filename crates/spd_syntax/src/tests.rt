@@ -1,3 +1,5 @@
+// Texts with their tokens, or the first fault of each.
+
 use crate::{LexFault, LexKind, Mark, TokenKind as Kind, Word, lex};
 use std::test::Fail;
 

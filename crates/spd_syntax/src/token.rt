@@ -1,3 +1,5 @@
+// Tokens, and the tables of words and marks.
+
 use spd_list::Seq;
 
 /// The words of the language. None of them is a name.

@@ -1,3 +1,5 @@
+// The tree of a program.
+
 use spd_list::Seq;
 use sqlite_items::Boxed;
 
