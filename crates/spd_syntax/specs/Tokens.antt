@@ -34,7 +34,7 @@ symbol kind.Lit text = lit text
 symbol (kind.Word which) text = word which
 symbol (kind.Mark which) text = mark which
 
--- a token of a text
+-- a token of a text, as the grammar sees it
 abbrev pub seen : List ℕ → Token → Seen
 seen text token = (symbol token.kind (take (token.end - token.start) (drop token.start text)), token.line)
 
@@ -128,25 +128,30 @@ token z =
 
 -- ---- the tokens of a text
 
-abbrev pub with_front : List Seen → Result (List Seen) LexFault → Result (List Seen) LexFault
+abbrev pub with_front : List Token → Result (List Token) LexFault → Result (List Token) LexFault
 with_front front (Ok tokens) = Ok (front ++ tokens)
 with_front front (Err fault) = Err fault
 
--- the token that was found at the front of bytes, and those behind it
-abbrev pub token_then : ℕ → List ℕ → Result (TokenKind × ℕ) LexKind → (ℕ → Result (List Seen) LexFault) → Result (List Seen) LexFault
-token_then line z (Ok found) behind = with_front ((symbol found.0 (take found.1 z), line) ∷ []) (behind (found.1 - 1))
-token_then line z (Err fault) behind = Err (record { line = line; kind = fault })
+-- a token of this kind and length
+abbrev pub token_of : ℕ → ℕ → TokenKind × ℕ → Token
+token_of at line found = record { kind = found.0; start = at; end = at + found.1; line = line }
 
--- The tokens of the bytes from a line on. The number counts the bytes that are passed over, of a token or a comment.
-unfoldable pub tokens_from : ℕ → ℕ → List ℕ → Result (List Seen) LexFault
-tokens_from skip line [] = Ok []
-tokens_from (suc skip) line (b ∷ z) = tokens_from skip line z
-tokens_from zero line (b ∷ z) =
-    if b == 10 then tokens_from zero (line + 1) z
-    else (if is_blank b then tokens_from zero line z
-    else (if b == 35 then tokens_from (prefix_len is_in_comment z) line z
-    else token_then line (b ∷ z) (token (b ∷ z)) (λ skip. tokens_from skip line z)))
+-- the token that was found at a place, and those behind it
+abbrev pub token_then : ℕ → ℕ → Result (TokenKind × ℕ) LexKind → (ℕ → Result (List Token) LexFault) → Result (List Token) LexFault
+token_then at line (Ok found) behind = with_front (token_of at line found ∷ []) (behind (found.1 - 1))
+token_then at line (Err fault) behind = Err (record { line = line; kind = fault })
+
+-- The tokens of bytes that begin at a place and on a line. So many of the bytes are passed over first, which belong to a
+-- token or a comment.
+unfoldable pub tokens_from : ℕ → ℕ → ℕ → List ℕ → Result (List Token) LexFault
+tokens_from skip at line [] = Ok []
+tokens_from (suc skip) at line (b ∷ z) = tokens_from skip (at + 1) line z
+tokens_from zero at line (b ∷ z) =
+    if b == 10 then tokens_from zero (at + 1) (line + 1) z
+    else (if is_blank b then tokens_from zero (at + 1) line z
+    else (if b == 35 then tokens_from (prefix_len is_in_comment z) (at + 1) line z
+    else token_then at line (token (b ∷ z)) (λ skip. tokens_from skip (at + 1) line z)))
 
 -- the tokens of a text, or its first fault
-abbrev pub tokens_of : List ℕ → Result (List Seen) LexFault
-tokens_of text = tokens_from 0 1 text
+abbrev pub tokens_of : List ℕ → Result (List Token) LexFault
+tokens_of text = tokens_from 0 0 1 text

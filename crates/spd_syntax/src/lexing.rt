@@ -4,7 +4,7 @@ ghost use Rattle.std.specs.Prelude.{IfSome, ◌≡◌, ◌≤◌, ◌<◌, ◌+�
 ghost use Rattle.std.specs.Char.{is_ascii_digit};
 ghost use Rattle.std.specs.List.{prefix_len};
 ghost use Rattle.spd_syntax.specs.Tokens as spec;
-ghost use Rattle.spd_syntax.specs.Tokens.{AreInOrder, seen, tokens_of};
+ghost use Rattle.spd_syntax.specs.Tokens.{AreInOrder, tokens_of};
 
 use crate::token::{MARKS, Mark, Token, TokenKind, Tokens, WORDS, Word};
 use std::alloc::Global;
@@ -205,13 +205,13 @@ fn token_at(text: &[u8], at: usize, line: u32) -> Result<Token, LexFault>
     })
 }
 
-/// The tokens of a text, or its first fault. Blanks and comments, which run from `#` to the end of
+/// The tokens of a text, each with its kind, its span and its line, or its first fault. Blanks and comments, which run from `#` to the end of
 /// the line, stand between tokens.
 ///
 /// A text of 4,294,967,295 bytes or more, whose places have no numbers, is answered as where memory
 /// runs out.
 pub fn lex(alloc: Global, text: &[u8]) -> Result<Tokens, LexFault>
-    ensures tokens { IfOk result (λ tokens. tokens_of text.now ≡ Ok (map (seen text.now) tokens)) }
+    ensures tokens { IfOk result (λ tokens. tokens_of text.now ≡ Ok tokens) }
     ensures spans { IfOk result (λ tokens. AreInOrder 0 tokens (length text.now)) }
     ensures fault { IfErr result (λ fault. (fault.kind ≡ LexKind.NoMemory) ⊎ (tokens_of text.now ≡ Err fault)) }
 {

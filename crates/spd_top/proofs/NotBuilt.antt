@@ -1,17 +1,24 @@
 -- When a text is not built.
-use Rattle.std.proofs.Common.{◌≡◌, ℕ, List, None, Some, Result, Ok, sym, ap, subst, ◌∙◌}
+use Rattle.std.proofs.Common.{◌≡◌, ℕ, List, map, None, Some, Result, Ok, sym, ap, subst, ◌∙◌}
 use Rattle.spd_syntax.specs.declared.tree.Program.{Program}
 use Rattle.spd_syntax.specs.declared.lexing.LexFault.{LexFault}
-use Rattle.spd_syntax.specs.Tokens.{Seen, tokens_of}
+use Rattle.spd_syntax.specs.declared.token.Token.{Token}
+use Rattle.spd_syntax.specs.Tokens.{Seen, seen, tokens_of}
 use Rattle.spd_syntax.specs.Grammar.{Spells}
 use Rattle.spd_syntax.specs.Limits.{KeepsOperators, KeepsNames}
 use Rattle.spd_check.specs.declared.faults.CheckFault.{CheckFault}
 use Rattle.spd_check.specs.Checks.{faults_of, first}
 use Rattle.spd_top.specs.Built.{IsBuilt}
 
-module _ (text : List ℕ) (ts : List Seen) (cut : tokens_of text ≡ Ok ts) (program : Program) (built : IsBuilt text program) where
-  same_tokens : built.tokens ≡ ts
-  same_tokens = let same : ◌≡◌ {A = Result (List Seen) LexFault} (Ok built.tokens) (Ok ts) = sym built.cut ∙ cut in cc
+module _ (text : List ℕ) (tokens : List Token) (cut : tokens_of text ≡ Ok tokens) (program : Program) (built : IsBuilt text program) where
+  abbrev ts : List Seen
+  ts = map (seen text) tokens
+
+  same_tokens : map (seen text) built.tokens ≡ ts
+  same_tokens =
+      let same : ◌≡◌ {A = Result (List Token) LexFault} (Ok built.tokens) (Ok tokens) = sym built.cut ∙ cut in
+      let found : built.tokens ≡ tokens = cc in
+      ap (map (seen text)) found
 
   pub too_many_operators : (KeepsOperators ts → ⊥) → ⊥
   too_many_operators none = none (subst KeepsOperators same_tokens built.operators)

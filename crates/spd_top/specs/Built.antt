@@ -1,7 +1,8 @@
 -- Which texts are built.
-use Rattle.std.specs.Prelude.{◌≡◌, ℕ, [], List, Ok}
+use Rattle.std.specs.Prelude.{◌≡◌, ℕ, [], List, map, Ok}
 use Rattle.spd_syntax.specs.declared.tree.Program.{Program}
-use Rattle.spd_syntax.specs.Tokens.{Seen, tokens_of}
+use Rattle.spd_syntax.specs.declared.token.Token.{Token}
+use Rattle.spd_syntax.specs.Tokens.{seen, tokens_of}
 use Rattle.spd_syntax.specs.Grammar.{Spells}
 use Rattle.spd_syntax.specs.Limits.{KeepsOperators, KeepsNames}
 use Rattle.spd_check.specs.declared.code.CodeBlock.{CodeBlock}
@@ -10,11 +11,11 @@ use Rattle.spd_check.specs.Resolved.{main_code}
 
 -- The text spells a program that keeps the limits and passes the checks.
 pub record IsBuilt (text : List ℕ) (program : Program) : Type 0 where
-  pub tokens : List Seen
+  pub tokens : List Token
   pub cut : tokens_of text ≡ Ok tokens
-  pub operators : KeepsOperators tokens
-  pub names : KeepsNames tokens
-  pub spelled : Spells tokens program
+  pub operators : KeepsOperators (map (seen text) tokens)
+  pub names : KeepsNames (map (seen text) tokens)
+  pub spelled : Spells (map (seen text) tokens) program
   pub passes : faults_of program ≡ []
 
 -- The text is built, and its main has this code.

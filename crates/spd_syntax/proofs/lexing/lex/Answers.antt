@@ -1,7 +1,7 @@
-use Rattle.std.proofs.Common.{◌∙◌, ◌+◌, ◌<◌, sym, inr, arith, get_or, map}
+use Rattle.std.proofs.Common.{◌∙◌, ◌+◌, ◌<◌, sym, inr, arith, get_or}
 use Rattle.std.proofs.lemmas.Result.{err_from_is_err_and}
 use Rattle.std.proofs.lemmas.List.{take_rest, length-drop}
-use Rattle.spd_syntax.specs.Tokens.{seen, AreInOrder}
+use Rattle.spd_syntax.specs.Tokens.{AreInOrder}
 use Rattle.spd_syntax.proofs.Tokens.{at_newline, at_blank, at_comment, at_fault, next_token, BeginsToken, ended, in_order-to, in_order-push}
 use Rattle.spd_syntax.proofs.lexing.lex.Goals as goal
 
@@ -54,4 +54,4 @@ loop-at-preserved c =
     }
 
 pub returns-clause-tokens : goal.returns-clause-tokens
-returns-clause-tokens c = sym c.loop-at.invariant.so_far ∙ ended c.args.text.now c.loop-at.at c.loop-at.line (map (seen c.args.text.now) c.loop-at.tokens) (omega arith)
+returns-clause-tokens c = sym c.loop-at.invariant.so_far ∙ ended c.args.text.now c.loop-at.at c.loop-at.line c.loop-at.tokens (omega arith)

@@ -1,11 +1,11 @@
-use Rattle.std.proofs.Common.{◌≡◌, ◌-◌, ◌+◌, ◌≤◌, length, drop, map}
-use Rattle.spd_syntax.specs.Tokens.{seen, with_front, tokens_from, tokens_of, AreInOrder}
+use Rattle.std.proofs.Common.{◌≡◌, ◌-◌, ◌+◌, ◌≤◌, length, drop}
+use Rattle.spd_syntax.specs.Tokens.{with_front, tokens_from, tokens_of, AreInOrder}
 use Rattle.spd_syntax.proofs.lexing.lex.Given as goal
 
 abbrev pub invariant-loop-at : goal.invariant-loop-at
 invariant-loop-at l =
     record {
-      so_far : with_front (map (seen l.text) l.tokens) (tokens_from 0 l.line (drop l.at l.text)) ≡ tokens_of l.text;
+      so_far : with_front l.tokens (tokens_from 0 l.at l.line (drop l.at l.text)) ≡ tokens_of l.text;
       in_order : AreInOrder 0 l.tokens l.at;
       lines : l.line ≤ l.at + 1;
       within : l.at ≤ length l.text;
