@@ -2,7 +2,7 @@
 """Measures `spd elide` in one run on this machine, and prints ratios.
 
 Usage: bench/first_path.py [PROGRAM], from the top of the repository, where PROGRAM is the built
-program (crates/spd/out/spd if left out; the README's first command builds it).
+program (crates/spd/out/spd if left out; the README says how it is built).
 
 What it prints is a measurement of one run, and no promise.
 """
