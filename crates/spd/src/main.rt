@@ -2,20 +2,9 @@
 //! puts to the standard streams.
 #![tactic(auto)]
 
-mod arguments;
-mod command;
-mod dir_shelf;
-mod process_arguments;
-mod size_limit;
-mod std_stream;
-
-use arguments::all_arguments;
-use command::serve_arguments;
-use dir_shelf::DirShelf;
-use process_arguments::ProcessArguments;
-use size_limit::SizeLimit;
+use spd_process::{DirShelf, ProcessArguments, SizeLimit, StdErr, StdOut, all_arguments};
+use spd_top::serve_arguments;
 use std::process::ExitCode;
-use std_stream::{StdErr, StdOut};
 
 fn main(rt: HostRuntime) -> ExitCode {
     let alloc = rt.alloc();

@@ -1,8 +1,8 @@
 // What is answered to words, over files and sinks of which calls fail.
 
 use crate::serving::{Answer, Failing, NOT_BUILT, expect, sink_failing_at, words_of};
-use spd_io::{MemShelf, MemSink, StillShelf, StillSink};
-use spd_top::{out_of_memory, refuse_words, serve_still};
+use spd_io::{MemShelf, StillShelf, StillSink};
+use spd_top::serve_still;
 use std::alloc::{AllocError, Global};
 use std::process::Abort;
 use std::test::Fail;
@@ -177,39 +177,5 @@ fn a_still_shelf_serves(rt: HostRuntime) -> Result<(), Fail> {
     let mut err = sink_failing_at(alloc, 1)?;
     let answer = serve_still(alloc, &words, &mut shelf, &mut StillSink::new(), &mut err);
     assert_eq!(rt; answer, 0);
-    Ok(())
-}
-
-/// A call of err that is to fail, and the statuses and lines of want of memory and of refused words.
-static TOLD: [(u32, u8, &[u8], u8, &[u8]); 3] = [
-    (0, 7, b"spd: out of memory\n", 2, b"spd: words refused\n"),
-    (1, 7, b"", 5, b""),
-    (2, 7, b"spd: out of memory\n", 2, b"spd: words refused\n"),
-];
-
-/// The status of want of memory, and the line.
-fn memory_told(alloc: Global, call: u32) -> Result<(u8, MemSink), AllocError> {
-    let mut err = sink_failing_at(alloc, call)?;
-    let status = out_of_memory(&mut err);
-    Ok((status, err))
-}
-
-/// The status of refused words, and the line.
-fn words_told(alloc: Global, call: u32) -> Result<(u8, MemSink), AllocError> {
-    let mut err = sink_failing_at(alloc, call)?;
-    let status = refuse_words(&mut err);
-    Ok((status, err))
-}
-
-#[test]
-fn lines_that_need_no_memory_are_told(rt: HostRuntime) -> Result<(), Fail> {
-    for (call, memory_status, memory_line, words_status, words_line) in &TOLD {
-        let (status, err) = memory_told(rt.alloc(), *call)?;
-        assert_eq!(rt; status, *memory_status);
-        assert_eq!(rt; err.bytes(), *memory_line);
-        let (status, err) = words_told(rt.alloc(), *call)?;
-        assert_eq!(rt; status, *words_status);
-        assert_eq!(rt; err.bytes(), *words_line);
-    }
     Ok(())
 }

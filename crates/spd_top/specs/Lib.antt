@@ -4,3 +4,4 @@ pub mod Built
 pub mod Meaning
 pub mod Running
 pub mod Serving
+pub mod Command

@@ -2,6 +2,7 @@
 #![tactic(auto)]
 
 mod building;
+mod command;
 mod expressions;
 mod limits;
 mod printing;
@@ -15,7 +16,7 @@ mod tokens;
 mod words;
 
 pub use building::build;
+pub use command::serve_arguments;
 pub use reading::{ReadError, read};
 pub use serving::serve_still;
-pub use telling::{out_of_memory, refuse_words};
 pub use words::Words;

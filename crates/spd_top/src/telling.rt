@@ -25,14 +25,14 @@ fn say<E: Sink>(err: &mut E, line: &[u8], status: u8) -> u8
 }
 
 /// Tells that the words are refused, and answers 2; or 5 where `err` fails.
-pub fn refuse_words<E: Sink>(err: &mut E) -> u8
+pub(crate) fn refuse_words<E: Sink>(err: &mut E) -> u8
     ensures { Says 2 (E.state err.old) (E.state err.new) words_refused result }
 {
     say(err, b"spd: words refused\n", status::WORDS_REFUSED)
 }
 
 /// Tells that memory ran out, and answers 7, also where `err` fails.
-pub fn out_of_memory<E: Sink>(err: &mut E) -> u8
+pub(crate) fn out_of_memory<E: Sink>(err: &mut E) -> u8
     ensures { WantsMemory (E.state err.old) (E.state err.new) result }
 {
     tell(err, b"spd: out of memory\n");

@@ -2,10 +2,10 @@
 use Rattle.std.proofs.Common.{ap, sym, subst, ◌∙◌}
 use Rattle.spd_top.specs.Serving.{operand_of}
 use Rattle.spd_top.proofs.Answering.{wanted}
-use Rattle.spd.specs.Command.{words_of, AreText}
-use Rattle.spd.proofs.Claims.{all_text}
-use Rattle.spd.proofs.Texts.{untrue}
-use Rattle.spd.proofs.command.serve_arguments.Goals as goal
+use Rattle.spd_top.specs.Command.{words_of, AreText}
+use Rattle.spd_top.proofs.Claims.{all_text}
+use Rattle.spd_top.proofs.Texts.{untrue}
+use Rattle.spd_top.proofs.command.serve_arguments.Goals as goal
 
 pub returns-then-not-are_text-clause-answer : goal.returns-then-not-are_text-clause-answer
 returns-then-not-are_text-clause-answer g c =

@@ -2,9 +2,12 @@
 
 ghost use Rattle.std.specs.Prelude.{Some};
 
-use super::*;
-use crate::arguments::{Arguments, all_arguments};
+use crate::serving::sink_failing_at;
 use spd_io::{MemShelf, MemSink};
+use spd_list::Seq;
+use spd_process::{Arguments, all_arguments};
+use spd_top::serve_arguments;
+use std::alloc::{AllocError, Global};
 use std::test::Fail;
 
 /// Arguments, and what out and err get, and the status.
@@ -78,15 +81,45 @@ fn arguments_behind_the_first_are_the_words(rt: HostRuntime) -> Result<(), Fail>
     Ok(())
 }
 
-#[test]
-fn arguments_that_could_not_be_had_are_told(rt: HostRuntime) -> Result<(), Fail> {
-    let alloc = rt.alloc();
+/// A call of err that is to fail, and what err gets and the status: of arguments that could not be
+/// had, and of none.
+static UNSERVED: [(u32, (&[u8], u8), (&[u8], u8)); 3] = [
+    (
+        0,
+        (b"spd: out of memory\n", 7),
+        (b"spd: words refused\n", 2),
+    ),
+    (1, (b"", 7), (b"", 5)),
+    (
+        2,
+        (b"spd: out of memory\n", 7),
+        (b"spd: words refused\n", 2),
+    ),
+];
+
+/// The status where no program is called for, and what err got.
+fn unserved(
+    alloc: Global,
+    arguments: Result<Seq<Seq<u8>>, AllocError>,
+    call: u32,
+) -> Result<(u8, MemSink), AllocError> {
+    let mut err = sink_failing_at(alloc, call)?;
     let mut shelf = MemShelf::new(alloc);
     let mut out = MemSink::new(alloc, 64)?;
-    let mut err = MemSink::new(alloc, 64)?;
-    let answer = serve_arguments(alloc, Err(AllocError), &mut shelf, &mut out, &mut err);
-    assert_eq!(rt; answer, 7);
-    assert_eq!(rt; out.bytes(), b"".as_slice());
-    assert_eq!(rt; err.bytes(), b"spd: out of memory\n".as_slice());
+    let status = serve_arguments(alloc, arguments, &mut shelf, &mut out, &mut err);
+    Ok((status, err))
+}
+
+#[test]
+fn lines_that_need_no_memory_are_told(rt: HostRuntime) -> Result<(), Fail> {
+    let alloc = rt.alloc();
+    for (call, (not_had_line, not_had_status), (refused_line, refused_status)) in &UNSERVED {
+        let (status, err) = unserved(alloc, Err(AllocError), *call)?;
+        assert_eq!(rt; status, *not_had_status);
+        assert_eq!(rt; err.bytes(), *not_had_line);
+        let (status, err) = unserved(alloc, Ok(Seq::new(alloc)), *call)?;
+        assert_eq!(rt; status, *refused_status);
+        assert_eq!(rt; err.bytes(), *refused_line);
+    }
     Ok(())
 }

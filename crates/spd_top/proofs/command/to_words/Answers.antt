@@ -1,7 +1,7 @@
 -- Each word is UTF-8, so each can be taken as text.
 use Rattle.std.proofs.Common.{sym, subst, ◌∙◌}
 use Rattle.std.specs.Str.{IsUtf8}
-use Rattle.spd.proofs.command.to_words.Goals as goal
+use Rattle.spd_top.proofs.command.to_words.Goals as goal
 
 pub unreachable-requires : goal.unreachable-requires
 unreachable-requires c =

@@ -1,6 +1,6 @@
 -- One argument more is gathered.
-use Rattle.spd.proofs.Gathering.{with_next}
-use Rattle.spd.proofs.arguments.all_arguments.Goals as goal
+use Rattle.spd_process.proofs.Gathering.{with_next}
+use Rattle.spd_process.proofs.arguments.all_arguments.Goals as goal
 
 pub loop-number-preserved : goal.loop-number-preserved
 loop-number-preserved g c =

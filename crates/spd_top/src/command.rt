@@ -1,13 +1,15 @@
-// The command: what the program does, as a function of its arguments, its files and its sinks.
+// The whole command: what the program does, as a function of its arguments, its files and its sinks.
 ghost use Rattle.std.specs.Prelude.{◌≡◌, ◌≢◌, ◌<◌, ◌⊎◌, ◌↔◌, ℕ, List, IfOk, OnErr, IsTrue, Some, None};
 ghost use Rattle.spd_io.specs.Shelf.{FailedAt, ChangesNoOther};
 ghost use Rattle.spd_io.specs.Sink.{Failed, SameFaults};
 ghost use Rattle.spd_top.specs.Serving.{operand_of, words_refused, Says, WantsMemory, Answer};
-ghost use Rattle.spd.specs.Command.{words_of, AreText, OfWords, WhereNotText};
+ghost use Rattle.spd_top.specs.Command.{words_of, AreText, OfWords, WhereNotText};
 
+use crate::serving::serve_still;
+use crate::telling::{out_of_memory, refuse_words};
+use crate::words::Words;
 use spd_io::{Shelf, Sink};
 use spd_list::Seq;
-use spd_top::{Words, out_of_memory, refuse_words, serve_still};
 use std::alloc::{AllocError, Global};
 use std::str;
 
@@ -99,6 +101,3 @@ pub fn serve_arguments<F: Shelf, O: Sink, E: Sink>(
         Err(_) => out_of_memory(err),
     }
 }
-
-#[cfg(test)]
-mod tests;

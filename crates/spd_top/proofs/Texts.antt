@@ -2,7 +2,7 @@
 use Rattle.std.proofs.Common.{below_more, ◌≡◌, ℕ, ◌+◌, ◌<◌, List, length, get_or, false, IsTrue, ◌↔◌, sym, subst, ◌∙◌}
 use Rattle.std.proofs.lemmas.List.{get_or_default}
 use Rattle.std.specs.Str.{IsUtf8}
-use Rattle.spd.specs.Command.{AreText}
+use Rattle.spd_top.specs.Command.{AreText}
 
 pub untrue : IsTrue false → ⊥
 untrue h = absurd cc

@@ -1,7 +1,7 @@
 -- Claims about the words of arguments.
 use Rattle.std.proofs.Common.{◌≡◌, List, Result, Ok, sym, subst}
 use Rattle.spd_top.specs.Serving.{Bytes}
-use Rattle.spd.specs.Command.{words_of, AreText, WhereNotText}
+use Rattle.spd_top.specs.Command.{words_of, AreText, WhereNotText}
 
 -- Where the words are UTF-8, nothing is claimed of words that aren't.
 pub all_text : {E : Type 0} (arguments : Result (List Bytes) E) (all words : List Bytes) → arguments ≡ Ok all → words ≡ words_of all → (claim : Type 0) → AreText words → WhereNotText arguments claim
