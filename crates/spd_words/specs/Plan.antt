@@ -36,6 +36,12 @@ grown_nodes Grow moves asked = asked
 abbrev pub planned : Scheme → ℕ → ℕ → PlanView
 planned scheme moves asked = record { scheme = scheme; moves = moves; grown = grown_nodes scheme moves asked }
 
+-- what holds of each plan: its numbers are within their bounds, and its nodes are those of its scheme
+pub record IsPlan (p : PlanView) : Type 0 where
+  pub moves : MayHaveMoves p.moves
+  pub grown : p.grown ≤ 2 * most_grown
+  pub scheme : grown_nodes p.scheme p.moves p.grown ≡ p.grown
+
 -- ---- places
 
 -- the numbers of moves and of grown nodes that were drawn, and the mark of the end

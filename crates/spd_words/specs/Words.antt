@@ -7,6 +7,10 @@ pub record Node : Type 0 where
   pub twice : ℕ
   pub version : ℕ
 
+pub record NodeFits (n : Node) : Type 0 where
+  pub twice : n.twice < 4294967296
+  pub version : n.version < 4294967296
+
 abbrev pub pack_node : Node → ℕ
 pack_node n = n.twice + 4294967296 * n.version
 

@@ -1,7 +1,7 @@
 // How many moves and grown nodes a table has, and where its words stand.
 
 ghost use Rattle.std.specs.Prelude.{◌≡◌, ◌*◌, ◌<◌, ◌≤◌, ◌↔◌, IfOk};
-ghost use Rattle.spd_words.specs.Plan.{PlanView, MayHaveMoves, AsksTooMuch, planned, plan_words, nodes};
+ghost use Rattle.spd_words.specs.Plan.{PlanView, IsPlan, MayHaveMoves, AsksTooMuch, planned, plan_words, nodes};
 ghost use Rattle.spd_words.specs.Plan.{node_place, child_place, parent_place, pair_place};
 ghost use Rattle.spd_words.specs.Plan.{vertex_place, gift_place, fault_place};
 
@@ -31,8 +31,7 @@ pub struct Plan {
 }
 
 impl Model for Plan {
-    ghost use Rattle.std.specs.Prelude.{◌≤◌};
-    ghost use Rattle.spd_words.specs.Plan.{PlanView, MayHaveMoves};
+    ghost use Rattle.spd_words.specs.Plan.{PlanView, IsPlan};
 
     ghost Value = { PlanView };
 
@@ -40,7 +39,7 @@ impl Model for Plan {
 
     ghost inverse = { λ plan. record { scheme = plan.scheme; moves = plan.moves; grown = plan.grown } };
 
-    ghost invariant = { λ plan. MayHaveMoves plan.moves × (plan.grown ≤ 524288) };
+    ghost invariant = { λ plan. IsPlan (record { scheme = plan.scheme; moves = plan.moves; grown = plan.grown }) };
 }
 
 impl Plan {
@@ -97,7 +96,8 @@ impl Plan {
 
     /// How many words a table of it has.
     pub fn words(&self) -> u32
-        ensures { result ≡ plan_words self.now }
+        ensures words { result ≡ plan_words self.now }
+        ensures lawful { IsPlan self.now }
     {
         3 + 7 * self.moves + 3 * self.grown
     }
