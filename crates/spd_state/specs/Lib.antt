@@ -1,0 +1,11 @@
+pub mod Sums
+pub mod Tree
+pub mod Dag
+pub mod History
+pub mod Parts
+pub mod Promises
+pub mod Steps
+pub mod Stages
+pub mod Seats
+pub mod Unfinished
+pub mod Shown
