@@ -1,0 +1,47 @@
+-- The rule holds of a new field; and a view may be cut in two, and two may become one.
+use Rattle.std.proofs.Common.{◌≡◌, ℕ, ◌*◌, ◌<◌, List, replicate, sym, ap, ◌∙◌, arith, None}
+use Rattle.atomic_table.specs.Table.{Splits, Joins, opening}
+use Rattle.spd_words.specs.Plan.{PlanView, IsPlan}
+use Rattle.spd_words.specs.declared.scheme.Scheme.TheVariants.{Flat}
+use Rattle.spd_state.specs.Tree.{first_trees, start_of}
+use Rattle.spd_state.specs.Seats.{kept_view, given_view, joined_view, spent_view, first_view, IsEmpty}
+use Rattle.spd_state.specs.declared.view.View.{View}
+use Rattle.spd_state.proofs.Seats.{split_keeps, join_keeps}
+use Rattle.spd_state.proofs.Opening.{opens, blank}
+use Rattle.spd_rule.specs.Held.{Held}
+use Rattle.spd_rule.specs.Openings.{StartsBlank}
+
+module _ {B : Type 0} (p : PlanView) where
+  pub splits : (id : ℕ) (v : View) → 0 < v.spare → Splits (Held {B = B} p) id v (kept_view v) (given_view v)
+  splits id v more s held at = record { dag = held.dag; written = held.written; kept = split_keeps p held.dag s.homes s.views held.kept id v at more }
+
+  pub joins : (id : ℕ) (v : View) (other : ℕ) (o : View) → IsEmpty o → Joins (Held {B = B} p) id v other o (joined_view v o) spent_view
+  joins id v other o empty s held at apart there = record {
+    dag = held.dag;
+    written = held.written;
+    kept = join_keeps p held.dag s.homes s.views held.kept id v at other o apart there empty;
+  }
+
+  pub begins : IsPlan p → p.scheme ≡ Flat → (ws : List ℕ) → StartsBlank p ws → Held {B = B} p (opening ws (replicate (2 * p.moves) None) first_view)
+  begins plan flat ws starts = let z = starts.zeros in let flat_trees : first_trees p ≡ start_of Flat p.moves = ap (λ s. start_of s p.moves) flat in record {
+    dag = blank p;
+    written = record {
+      long = starts.long;
+      drawn = z 0 (omega arith);
+      bred = z 1 (omega arith);
+      done = z 2 (omega arith);
+      children = λ n l. z _ (omega arith) ∙ sym (ap (λ t. t.children n) flat_trees);
+      parents = λ n k l. z _ (omega arith) ∙ sym (ap (λ t. t.parents n) flat_trees);
+      nodes = λ n l. z _ (omega arith);
+      pairs = λ d l. z _ (omega arith);
+      vertices = λ v l. z _ (omega arith);
+      gifts = λ d l. z _ (omega arith);
+      faults = starts.codes;
+      nodes_fit = λ n l. record { twice = omega arith; version = omega arith };
+      pairs_fit = λ d l. record { claims = omega arith; total = omega arith; kind = omega arith; first = omega arith; second = omega arith };
+      vertices_fit = λ v l. record { state = omega arith; side = omega arith; pair = omega arith; finish = omega arith; inc = omega arith };
+      gifts_fit = λ d l. omega arith;
+      faults_fit = λ d l. omega arith;
+    };
+    kept = opens p plan;
+  }

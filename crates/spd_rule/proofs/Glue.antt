@@ -1,0 +1,155 @@
+-- From a step on the typed words to what the table asks of a step on its words, once for each kind of word.
+use Rattle.std.proofs.Common.{◌≡◌, ◌⊎◌, ℕ, ◌+◌, ◌*◌, ◌<◌, List, length, set, get_or, refl, sym, ap, ◌∙◌, subst, Option, ⊎_elim}
+use mathlib.Core.Option.{some}
+use mathlib.Core.Option as maybe
+use lib.ListN.{get_elem?}
+use lib.Seq.{set-get_or}
+use Rattle.atomic_table.specs.Table.{Me, Act, Valid, homes_after, carried_after, Allows, stepped}
+use Rattle.spd_words.specs.Plan.{PlanView, moves_place, node_place, pair_place, vertex_place}
+use Rattle.spd_words.specs.Words.{NodeFits, PairFits, VertexFits, pack_node, pack_pair, pack_vertex}
+use Rattle.spd_state.specs.Sums.{put}
+use Rattle.spd_state.specs.Dag.{Dag, IsWritten}
+use Rattle.spd_state.specs.Parts.{Rule}
+use Rattle.spd_state.specs.declared.view.View.{View}
+use Rattle.spd_state.proofs.Writes.{write_moves, write_node, write_pair, write_vertex}
+use Rattle.spd_rule.specs.Held.{Held, StepUnderRule}
+
+-- what a step tells, it tells of a step under the rule
+module _ {B : Type 0} (p key picked : PlanView) (keyed : key ≡ p) (is : picked ≡ p) (slots id : ℕ) (me : Me (Option B) View) (place : ℕ) where
+  taken : (f : ℕ → ℕ) (then : ℕ → Me (Option B) View → Type 0) → Allows (Held p) slots id me place f then
+      → Allows (Held p) slots id me place f (λ n m'. then n m' × StepUnderRule p place n (f n) me m')
+  taken f then allowed s held deep at fits = let r = allowed s held deep at fits in (
+    r.0,
+    r.1,
+    r.2,
+    r.3,
+    (
+      r.4,
+      record {
+        before = s;
+        after = stepped s place (f (get_or s.words place 0)) id me.1 r.0 r.1;
+        seat = id;
+        held = held;
+        kept = r.3;
+        knew = at;
+        was = refl;
+        words = refl;
+        views = refl;
+      },
+    ),
+  )
+
+  pub under_rule : (f : ℕ → ℕ) (then : ℕ → Me (Option B) View → Type 0) → Allows (Held p) slots id me place f then
+      → Allows (Held key) slots id me place f (λ n m'. then n m' × StepUnderRule picked place n (f n) me m')
+  under_rule f then allowed = subst (λ (k : PlanView). Allows (Held k) slots id me place f (λ n m'. then n m' × StepUnderRule picked place n (f n) me m'))
+      (sym keyed)
+      (subst (λ (k : PlanView). Allows (Held p) slots id me place f (λ n m'. then n m' × StepUnderRule k place n (f n) me m')) (sym is) (taken f then allowed))
+
+  stored : (x : ℕ) (then : Me (Option B) View → Type 0) → Allows (Held p) slots id me place (λ _. x) (λ _. then)
+      → Allows (Held p) slots id me place (λ _. x) (λ _ m'. then m' × (w : ℕ) × StepUnderRule p place w x me m')
+  stored x then allowed s held deep at fits = let r = taken (λ _. x) (λ _. then) allowed s held deep at fits in
+      (r.0, r.1, r.2, r.3, (r.4.0, get_or s.words place 0, r.4.1))
+
+  pub stores_under_rule : (x : ℕ) (tells : ℕ → Me (Option B) View → Type 0) → Allows (Held p) slots id me place (λ _. x) (λ _. tells x)
+      → Allows (Held key) slots id me place (λ _. x) (λ _ m'. tells x m' × (w : ℕ) × StepUnderRule picked place w x me m')
+  stores_under_rule x tells allowed = subst (λ (k : PlanView). Allows (Held k) slots id me place (λ _. x)
+      (λ _ m'. tells x m' × (w : ℕ) × StepUnderRule picked place w x me m')) (sym keyed)
+      (subst (λ (k : PlanView). Allows (Held p) slots id me place (λ _. x) (λ _ m'. tells x m' × (w : ℕ) × StepUnderRule k place w x me m')) (sym is)
+      (stored x (tells x) allowed))
+
+module _ {B : Type 0} (p : PlanView) (slots id : ℕ) (me : Me (Option B) View) where
+  -- the new view and the act of a step, after which the typed words are those of b
+  pub record Move (b : Dag) (homes : List (maybe.Option (Option B))) (vs : List View) (then : Me (Option B) View → Type 0) : Type 0 where
+    pub view : View
+    pub act : Act (Option B)
+    pub valid : Valid homes me.1 act
+    pub kept : Rule p b (homes_after homes me.1 act) (set vs id view)
+    pub tells : then (view, carried_after me.1 act)
+
+  -- what a step may start from
+  pub record From (a : Dag) (homes : List (maybe.Option (Option B))) (vs : List View) : Type 0 where
+    pub rule : Rule p a homes vs
+    pub deep : length homes ≡ slots
+    pub at : get_elem? vs id ≡ some me.0
+
+  -- the step writes x in place of a typed word, or leaves the word
+  pub record Writes {W : Type 0} (Fits : W → Type 0) (pack : W → ℕ) (change : Dag → W → Dag) (a : Dag) (old : W) (f : ℕ → ℕ)
+      (homes : List (maybe.Option (Option B))) (vs : List View) (then : ℕ → Me (Option B) View → Type 0) : Type 0 where
+    pub new : W
+    pub fits : Fits new
+    pub packs : pack new ≡ f (pack old)
+    pub move : Move (change a new) homes vs (then (pack old))
+
+  pub record Leaves (a : Dag) (n : ℕ) (f : ℕ → ℕ) (homes : List (maybe.Option (Option B))) (vs : List View)
+      (then : ℕ → Me (Option B) View → Type 0) : Type 0 where
+    pub stays : f n ≡ n
+    pub move : Move a homes vs (then n)
+
+  -- the same at any word, and any change of it
+  allow : {W : Type 0} (Fits : W → Type 0) (pack : W → ℕ) (change : Dag → W → Dag) (read : Dag → W) (place : ℕ)
+      → ((a : Dag) (ws : List ℕ) → IsWritten p a ws → (get_or ws place 0 ≡ pack (read a)) × Fits (read a))
+      → ((a : Dag) (ws : List ℕ) (x : W) → Fits x → IsWritten p a ws → IsWritten p (change a x) (set ws place (pack x)))
+      → (f : ℕ → ℕ) (then : ℕ → Me (Option B) View → Type 0)
+      → ((a : Dag) (homes : List (maybe.Option (Option B))) (vs : List View) → From a homes vs → Fits (read a) → pack (read a) < 18446744073709551616
+      → Writes Fits pack change a (read a) f homes vs then ⊎ Leaves a (pack (read a)) f homes vs then)
+      → Allows (Held p) slots id me place f then
+  allow {W} Fits pack change read place found write f then step s held deep at fits =
+      let a : Dag = held.dag in let n : ℕ = get_or s.words place 0 in let was = found a s.words held.written in let e : n ≡ pack (read a) = was.0 in ⊎_elim
+      (λ (k : Writes Fits pack change a (read a) f s.homes s.views then). let m = k.move in (
+        m.view,
+        m.act,
+        m.valid,
+        record {
+          dag = change a k.new;
+          written = subst (λ (x : ℕ). IsWritten p (change a k.new) (set s.words place x)) (k.packs ∙ ap f (sym e)) (write a s.words k.new k.fits held.written);
+          kept = m.kept;
+        },
+        subst (λ (x : ℕ). then x (m.view, carried_after me.1 m.act)) (sym e) m.tells,
+      ))
+      (λ (k : Leaves a (pack (read a)) f s.homes s.views then). let m = k.move in (
+        m.view,
+        m.act,
+        m.valid,
+        record {
+          dag = a;
+          written = subst (λ (ws : List ℕ). IsWritten p a ws) (sym (ap (set s.words place) (ap f e ∙ (k.stays ∙ sym e))
+              ∙ set-get_or s.words place 0)) held.written;
+          kept = m.kept;
+        },
+        subst (λ (x : ℕ). then x (m.view, carried_after me.1 m.act)) (sym e) m.tells,
+      ))
+      (step a s.homes s.views record { rule = held.kept; deep = deep; at = at } was.1 (subst (λ (x : ℕ). x < 18446744073709551616) e fits))
+
+  pub allow_moves : (f : ℕ → ℕ) (then : ℕ → Me (Option B) View → Type 0)
+      → ((a : Dag) (homes : List (maybe.Option (Option B))) (vs : List View) → From a homes vs → a.drawn < 18446744073709551616
+      → Writes (λ _. Unit {0}) (λ (x : ℕ). x) (λ b x. record b { drawn = x }) a a.drawn f homes vs then ⊎ Leaves a a.drawn f homes vs then)
+      → Allows (Held p) slots id me moves_place f then
+  allow_moves f then step = allow (λ _. Unit {0}) (λ (x : ℕ). x) (λ b x. record b { drawn = x }) (λ b. b.drawn) moves_place (λ a ws h. (h.drawn, tt))
+      (λ a ws x _ h. write_moves p a ws x h) f then (λ a homes vs from _. step a homes vs from)
+
+  pub allow_node : (d : ℕ) → d < p.moves + p.grown → (f : ℕ → ℕ) (then : ℕ → Me (Option B) View → Type 0)
+      → ((a : Dag) (homes : List (maybe.Option (Option B))) (vs : List View) → From a homes vs → NodeFits (a.nodes d)
+      → pack_node (a.nodes d) < 18446744073709551616
+      → Writes NodeFits pack_node (λ b x. record b { nodes = put b.nodes d x }) a (a.nodes d) f homes vs then
+      ⊎ Leaves a (pack_node (a.nodes d)) f homes vs then)
+      → Allows (Held p) slots id me (node_place p d) f then
+  allow_node d low = allow NodeFits pack_node (λ b x. record b { nodes = put b.nodes d x }) (λ b. b.nodes d) (node_place p d)
+      (λ a ws h. (h.nodes d low, h.nodes_fit d low)) (λ a ws x fit h. write_node p a ws d x low fit h)
+
+  pub allow_pair : (d : ℕ) → d < p.moves → (f : ℕ → ℕ) (then : ℕ → Me (Option B) View → Type 0)
+      → ((a : Dag) (homes : List (maybe.Option (Option B))) (vs : List View) → From a homes vs → PairFits (a.pairs d)
+      → pack_pair (a.pairs d) < 18446744073709551616
+      → Writes PairFits pack_pair (λ b x. record b { pairs = put b.pairs d x }) a (a.pairs d) f homes vs then
+      ⊎ Leaves a (pack_pair (a.pairs d)) f homes vs then)
+      → Allows (Held p) slots id me (pair_place p d) f then
+  allow_pair d low = allow PairFits pack_pair (λ b x. record b { pairs = put b.pairs d x }) (λ b. b.pairs d) (pair_place p d)
+      (λ a ws h. (h.pairs d low, h.pairs_fit d low)) (λ a ws x fit h. write_pair p a ws d x low fit h)
+
+  pub allow_vertex : (v : ℕ) → v < 2 * p.moves → (f : ℕ → ℕ) (then : ℕ → Me (Option B) View → Type 0)
+      → ((a : Dag) (homes : List (maybe.Option (Option B))) (vs : List View) → From a homes vs → VertexFits (a.vertices v)
+      → pack_vertex (a.vertices v) < 18446744073709551616
+      → Writes VertexFits pack_vertex (λ b x. record b { vertices = put b.vertices v x }) a (a.vertices v) f homes vs then
+      ⊎ Leaves a (pack_vertex (a.vertices v)) f homes vs then)
+      → Allows (Held p) slots id me (vertex_place p v) f then
+  allow_vertex v low = allow VertexFits pack_vertex (λ b x. record b { vertices = put b.vertices v x }) (λ b. b.vertices v) (vertex_place p v)
+      (λ a ws h. (h.vertices v low, h.vertices_fit v low)) (λ a ws x fit h. write_vertex p a ws v x low fit h)

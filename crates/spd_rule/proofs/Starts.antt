@@ -1,0 +1,100 @@
+-- The table allows a vertex to be started.
+use Rattle.std.proofs.Common.{◌≡◌, ◌≢◌, ℕ, ◌+◌, ◌*◌, ◌<◌, List, set, refl, sym, ap, ◌∙◌, subst, arith, ◌∷◌, Option, Some, None, inl, inr, eqb, eq-eqb, ne_eqb}
+use mathlib.Core.Option.{some}
+use mathlib.Core.Option as maybe
+use mathlib.Core.Logic.{dite}
+use native.Mathlib.Decide.{ℕ_discrete}
+use prog.Atomic.{either}
+use lib.ListN.{get_elem?}
+use Rattle.atomic_table.specs.Table.{Me, keeps, takes, Allows}
+use Rattle.spd_words.specs.Plan.{PlanView, vertex_place}
+use Rattle.spd_words.specs.Meaning.{Meaning}
+use Rattle.spd_words.specs.Words.{Vertex, vertex_of, pack_vertex}
+use Rattle.spd_words.proofs.Reading.{vertex_read}
+use Rattle.spd_state.specs.Dag.{Dag}
+use Rattle.spd_state.specs.Parts.{Rule, IsInside}
+use Rattle.spd_state.specs.Steps.{stepped, start_word, start_run, start_view}
+use Rattle.spd_state.specs.declared.view.View.{View}
+use Rattle.spd_state.proofs.Loads.{load_keeps}
+use Rattle.spd_state.proofs.Start.{start_keeps}
+use Rattle.spd_rule.specs.Held.{Held}
+use Rattle.spd_rule.specs.Steps.{MayStart, StartsVertex, meaning_in}
+use Rattle.spd_rule.proofs.Glue.{From, allow_vertex}
+
+module _ {B : Type 0} (means : B → Meaning) (p : PlanView) (slots id : ℕ) (me : Me (Option B) View) where
+  -- a step that changes the number of steps alone
+  idles : (a : Dag) (homes : List (maybe.Option (Option B))) (vs : List View) → From {B = B} p slots id me a homes vs
+      → Rule p a homes (set vs id (stepped me.0))
+  idles a homes vs from = load_keeps p a homes vs from.rule id me.0 from.at
+      (stepped me.0) record {
+        flight = refl;
+        held = refl;
+        claimed = refl;
+        rooted = refl;
+        told = refl;
+        slots = refl;
+        full_draws = refl;
+        seats = refl;
+        spare = refl;
+        lifted = refl;
+        above = refl;
+        halves = refl;
+        known = refl;
+        links = refl;
+        sprout = refl;
+        grow_draws = refl;
+        full_grows = refl;
+        spawns = refl;
+        fresh = refl;
+        ready = refl;
+        done = refl;
+      } refl (λ e. e)
+
+  -- what lies at home in the slot of a ready vertex
+  body_there : (a : Dag) (homes : List (maybe.Option (Option B))) (vs : List View) (from : From {B = B} p slots id me a homes vs) (i : ℕ) → i < 2 * p.moves
+      → (a.vertices i).state ≡ 2
+      → (y : Option B) × (get_elem? homes i ≡ some (some y)) × (i ≡ 1 → y ≡ None) × (i ≢ 1 → (b : B) × (y ≡ Some b))
+  body_there a homes vs from i low two = let h = from.rule.slots in dite (ℕ_discrete i 1)
+      (λ e. let s : (a.vertices 1).state ≡ 2 = ap (λ j. (a.vertices j).state) (sym e) ∙ two in
+      (None, ap (get_elem? homes) e ∙ h.end (omega arith) (omega arith), (λ _. refl), λ n. absurd (n e)))
+      (λ n. let b = h.body i low (omega arith) (omega arith) n in (Some b.0, b.1, (λ e. absurd (n e)), λ _. (b.0, refl)))
+
+  pub starts : (i seen : ℕ) → slots ≡ 2 * p.moves → i < 2 * p.moves → MayStart seen me.0 → 0 < me.0.seats
+      → Allows (Held p) slots id me (vertex_place p i) (λ n. either (eqb n seen) (seen + 1) n)
+      (λ n m'. (n ≡ seen → StartsVertex means p i seen me m') × (n ≢ seen → m' ≡ (stepped me.0, me.1)))
+  starts i seen size low may seated = allow_vertex p slots id me i low (λ n. either (eqb n seen) (seen + 1) n)
+      (λ n m'. (n ≡ seen → StartsVertex means p i seen me m') × (n ≢ seen → m' ≡ (stepped me.0, me.1)))
+      (λ a homes vs from fit fits. let x : Vertex = a.vertices i in dite (ℕ_discrete (pack_vertex x) seen)
+      (λ hit. let read : x ≡ vertex_of seen = sym (vertex_read x fit) ∙ ap vertex_of hit in let two : x.state ≡ 2 = ap (λ (y : Vertex). y.state) read
+      ∙ may.ready in
+      let slot = body_there a homes vs from i low two in let rule = from.rule in let m : Option Meaning = meaning_in means slot.0 in
+      let kept = start_keeps p a homes vs rule id me.0 from.at (from.deep ∙ size) may.running may.flight seated i low m two slot.0 slot.1 in
+      let pair = rule.balances.pair i low (omega arith) in let finish = (rule.live.finish i low (omega arith)).0 in
+      let inc = (rule.live.inc i low (omega arith)).low in
+      let here : IsInside p (start_run i x) = (low, pair, finish, inc) in inl record {
+        new = start_word x;
+        fits = record { state = omega arith; side = fit.side; pair = fit.pair; finish = fit.finish; inc = fit.inc };
+        packs = (let e : pack_vertex (start_word x) ≡ seen + 1 = omega arith in e)
+            ∙ sym (ap (λ b. either b (seen + 1) (pack_vertex x)) (eq-eqb (pack_vertex x) seen hit));
+        move = record {
+          view = start_view i x m me.0;
+          act = takes i slot.0;
+          valid = slot.1;
+          kept = kept;
+          tells = (
+            (λ _. record {
+              body = slot.0;
+              known = λ j. (start_view i (read j) m me.0, (i, slot.0) ∷ me.1);
+              end = slot.2;
+              other = slot.3;
+              inside = subst
+                  (λ (y : Vertex). IsInside p (start_run i y)) read here;
+            }),
+            λ miss. absurd (miss hit),
+          );
+        };
+      })
+      (λ miss. inr record {
+        stays = ap (λ b. either b (seen + 1) (pack_vertex x)) (ne_eqb (pack_vertex x) seen miss);
+        move = record { view = stepped me.0; act = keeps; valid = tt; kept = idles a homes vs from; tells = ((λ hit. absurd (miss hit)), λ _. refl) };
+      }))

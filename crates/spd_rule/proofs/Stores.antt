@@ -1,0 +1,167 @@
+-- The table allows a vertex of a move in flight to be stored, and the slots of a share that is at rest to go home with it.
+use Rattle.std.proofs.Common.{◌≡◌, ◌≢◌, ℕ, ◌+◌, ◌*◌, ◌<◌, ◌≤◌, List, ◌∷◌, length, set, map, refl, sym, ap, ◌∙◌, subst, arith, Option, Some, None, inl}
+use mathlib.Core.Option.{some}
+use mathlib.Core.Option as maybe
+use lib.ListN.{length-set}
+use Rattle.atomic_table.specs.Table.{Me, Act, gives, chain, Allows, Valid, homes_after, carried_after, rest}
+use Rattle.spd_words.specs.Plan.{PlanView, vertex_place}
+use Rattle.spd_words.specs.Meaning.{Meaning}
+use Rattle.spd_words.specs.Words.{Vertex, VertexFits, pack_vertex}
+use Rattle.spd_state.specs.Sums.{put}
+use Rattle.spd_state.specs.Dag.{Dag}
+use Rattle.spd_state.specs.Parts.{Rule, FlightsOk, FlightOk, no_vertex}
+use Rattle.spd_state.specs.Stages.{end_view, chain_rest_view, spawn_left_view, last_view, end_vertex, chain_rest_vertex, body_vertex, spawn_vertex}
+use Rattle.spd_state.specs.declared.view.Draw.{Draw}
+use Rattle.spd_state.specs.declared.view.Draw.TheVariants.{Make, Chain, Spawn}
+use Rattle.spd_state.specs.declared.view.Running.{Running}
+use Rattle.spd_state.specs.declared.view.Flight.{Flight}
+use Rattle.spd_state.specs.declared.view.View.{View}
+use Rattle.spd_state.proofs.Sums.{put_else}
+use Rattle.spd_state.proofs.Settle.{there_set}
+use Rattle.spd_state.proofs.Bounds.{ready_few}
+use Rattle.spd_state.proofs.Lookup.{known_under}
+use Rattle.spd_state.proofs.EndVertex.{end_keeps}
+use Rattle.spd_state.proofs.ChainRest.{chain_rest_keeps}
+use Rattle.spd_state.proofs.LastBody.{Closing, make_closing, chain_closing, last_body_keeps}
+use Rattle.spd_state.proofs.SpawnLeft.{spawn_left_keeps}
+use Rattle.spd_state.proofs.SpawnRight.{spawn_right_keeps}
+use Rattle.spd_rule.specs.Held.{Held}
+use Rattle.spd_rule.specs.Rest.{due, at_rest}
+use Rattle.spd_rule.specs.Moves.{MaySetVertex, the_end, the_rest, the_body, the_left, the_right, StoresEnd, StoresRest, StoresBody, StoresLeft, StoresRight}
+use Rattle.spd_rule.specs.Moves.{flight_with, vertex_set, stored_in, less_first}
+use Rattle.spd_rule.proofs.Glue.{From, allow_vertex}
+use Rattle.spd_rule.proofs.Resting.{HomeBound, bound_by, running_started, rests}
+
+closing_of : (draw : Draw) → draw ≢ Spawn → Closing draw
+closing_of Make other = make_closing
+closing_of Chain other = chain_closing
+closing_of Spawn other = absurd (other refl)
+
+module _ {B : Type 0} (means : B → Meaning) (p : PlanView) (slots id : ℕ) (me : Me (Option B) View) (size : slots ≡ 2 * p.moves)
+    (holds : me.0.slots ≡ map (λ x. x.0) me.1) (is_due : me.0.slots ≡ due me.0.flight me.0.running) where
+  -- the slots that stay, by number
+  abbrev left : List ℕ
+  left = map (λ x. x.0) (rest me.1)
+
+  in_front : (i : ℕ) (y : Option B) → me.1 ≡ (i, y) ∷ rest me.1 → me.0.slots ≡ i ∷ left
+  in_front i y e = holds ∙ ap (map (λ x. x.0)) e
+
+  less : (i : ℕ) (y : Option B) → me.1 ≡ (i, y) ∷ rest me.1 → less_first me.0.slots ≡ left
+  less i y e = ap less_first (in_front i y e)
+
+  abbrev Said : Me (Option B) View → Type 0
+  Said m' = (m' ≡ at_rest (vertex_set me)) × (m'.0.ready ≤ 2 * p.moves)
+
+  module _ (i : ℕ) (x : Vertex) (a : Dag) (homes : List (maybe.Option (Option B))) (vs : List View) (from : From {B = B} p slots id me a homes vs) where
+    abbrev b : Dag
+    b = record a { vertices = put a.vertices i x }
+
+    -- what a step of any kind comes to
+    pub record Ends : Type 0 where
+      pub view : View
+      pub act : Act (Option B)
+      pub valid : Valid homes me.1 act
+      pub kept : Rule p b (homes_after homes me.1 act) (set vs id view)
+      pub tells : Said (view, carried_after me.1 act)
+
+    ends : (y : Option B) (w : View) → me.1 ≡ (i, y) ∷ rest me.1 → Rule p b (set homes i (some y)) (set vs id w) → w ≡ (vertex_set me).0 → w.slots ≡ left
+        → (w.running ≡ None → w.flight ≡ None → HomeBound p.moves b.vertices (rest me.1)) → Ends
+    ends y w slot kept is lasts bound =
+        let homes' : List (maybe.Option (Option B)) = homes_after homes me.1 gives in
+        let put_home : homes' ≡ set homes i (some y) = ap (λ l. homes_after homes l gives) slot in
+        let deep : length homes' ≡ 2 * p.moves = ap length put_home ∙ (length-set homes i (some y) ∙ (from.deep ∙ size)) in
+        let r = rests p b homes' vs id me.0 from.at w (rest me.1) (subst (λ (h : List (maybe.Option (Option B))). Rule p b h (set vs id w))
+        (sym put_home) kept) deep lasts bound in
+        let v : View = (at_rest (w, rest me.1)).0 in let all : r.act ≡ r.act = refl in record {
+          view = v;
+          act = chain gives r.act;
+          valid = (tt, r.valid);
+          kept = r.kept;
+          tells = (
+            (λ j. (v, sym r.carried j)) ∙ (λ j. at_rest (is j, rest me.1)),
+            ready_few p b (homes_after homes' (rest me.1) r.act)
+                (set vs id v) r.kept id v (there_set vs id me.0 v from.at),
+          );
+        }
+
+    -- where a move has come to its last vertex, what the running vertex holds is left
+    last_bound : (draw : Draw) (d f : ℕ) (y : Option B) → me.1 ≡ (i, y) ∷ rest me.1 → me.0.flight ≡ Some (flight_with draw d f 3) → a.vertices i ≡ no_vertex
+        → HomeBound p.moves b.vertices (rest me.1)
+    last_bound draw d f y slot flies blank = bound_by p.moves b.vertices (rest me.1) me.0.running
+        (sym (less i y slot) ∙ ap less_first (is_due ∙ (λ j. due (flies j) me.0.running)))
+        (λ r e. let s = running_started p a homes vs from.rule id me.0 from.at r e in let st = s.started in
+        let apart : r.vertex ≢ i = λ k. let z : (a.vertices r.vertex).state ≡ 0 = ap (λ n. (a.vertices n).state) k ∙ ap (λ (v : Vertex). v.state) blank in
+        omega arith in
+        record { low = s.low; started = subst (λ (v : Vertex). 3 ≤ v.state) (sym (put_else a.vertices i x r.vertex apart)) s.started })
+
+    flight_ok : (f : Flight) → me.0.flight ≡ Some f → FlightOk p a.trees a.drawn a.nodes a.pairs a.vertices f
+    flight_ok f e = subst (FlightsOk p a.trees a.drawn a.nodes a.pairs a.vertices) e (from.rule.flying id me.0 from.at)
+
+  module _ (a : Dag) (homes : List (maybe.Option (Option B))) (vs : List View) (from : From {B = B} p slots id me a homes vs) where
+    deep : length homes ≡ 2 * p.moves
+    deep = from.deep ∙ size
+
+    slot_at : (i j : ℕ) (y : Option B) → i ≡ j → me.1 ≡ (i, y) ∷ rest me.1 → me.1 ≡ (j, y) ∷ rest me.1
+    slot_at i j y e s = subst (λ (k : ℕ). me.1 ≡ (k, y) ∷ rest me.1) e s
+
+    -- what is left at the last stage
+    last_is : (draw : Draw) (d f : ℕ) (o : Option Running) (l : List ℕ) → last_view l me.0 ≡ stored_in (Some (flight_with draw d f 3)) o l me.0
+    last_is Make d f o l = refl
+    last_is Chain d f o l = refl
+    last_is Spawn d f o l = refl
+
+    module _ (i : ℕ) (x : Vertex) where
+      end_kind : StoresEnd means i x me → Ends i x a homes vs from
+      end_kind h = let s = slot_at i 1 None h.vertex h.slot in
+          subst (λ (j : ℕ). Ends j x a homes vs from) (sym h.vertex) (subst (λ (z : Vertex). Ends 1 z a homes vs from) (sym h.word)
+          (ends 1 end_vertex a homes vs from None (end_view left me.0) s (end_keeps p a homes vs from.rule id me.0 from.at h.flies left
+          (in_front 1 None s) deep)
+          (sym (λ j. stored_in (h.flies j) me.0.running (less 1 None s j) me.0)) refl (λ none free. absurd (cc))))
+
+      rest_kind : StoresRest means i x me → Ends i x a homes vs from
+      rest_kind h = let k : ℕ = 2 * h.number + 1 in let y : Option B = Some h.body in let s = slot_at i k y h.vertex h.slot in
+          subst (λ (j : ℕ). Ends j x a homes vs from) (sym h.vertex) (subst (λ (z : Vertex). Ends k z a homes vs from) (sym h.word)
+          (ends k (chain_rest_vertex h.runs) a homes vs from y (chain_rest_view h.runs h.number left me.0) s
+          (chain_rest_keeps p a homes vs from.rule id me.0 from.at h.runs h.running h.right h.number h.flies left (in_front k y s) h.body deep)
+          (sym (λ j. stored_in (h.flies j) (h.running j) (less k y s j) me.0)) refl (λ none free. absurd (cc))))
+
+      body_kind : StoresBody means i x me → Ends i x a homes vs from
+      body_kind h = let d : ℕ = h.number in let k : ℕ = 2 * d in let y : Option B = Some h.body in let s = slot_at i k y h.vertex h.slot in
+          let kind : Closing h.draw = closing_of h.draw h.opens in
+          subst (λ (j : ℕ). Ends j x a homes vs from) (sym h.vertex) (subst (λ (z : Vertex). Ends k z a homes vs from) (sym h.word)
+          (ends k (body_vertex d) a homes vs from y (last_view left me.0) s
+          (last_body_keeps p a homes vs from.rule id me.0 from.at h.draw kind d h.flies left (in_front k y s) h.body deep)
+          (last_is h.draw d d me.0.running left ∙ sym (λ j. stored_in (h.flies j) me.0.running (less k y s j) me.0)) refl
+          (λ none free. last_bound k (body_vertex d) a homes vs from h.draw d d y s h.flies
+          ((flight_ok k (body_vertex d) a homes vs from (flight_with h.draw d d 3) h.flies).body (let z = kind.body in omega arith)))))
+
+      left_kind : StoresLeft means i x me → Ends i x a homes vs from
+      left_kind h = let d : ℕ = h.number in let k : ℕ = 2 * d in let y : Option B = Some h.body in let s = slot_at i k y h.vertex h.slot in
+          subst (λ (j : ℕ). Ends j x a homes vs from) (sym h.vertex) (subst (λ (z : Vertex). Ends k z a homes vs from) (sym h.word)
+          (ends k (spawn_vertex d h.finish 0 h.inc) a homes vs from y (spawn_left_view d h.finish left me.0) s
+          (spawn_left_keeps p a homes vs from.rule id me.0 from.at d h.finish h.inc h.flies
+          (known_under p a homes vs from.rule id me.0 from.at h.inc h.finish h.known) left (in_front k y s) h.body deep)
+          (sym (λ j. stored_in (h.flies j) me.0.running (less k y s j) me.0)) refl (λ none free. absurd (cc))))
+
+      right_kind : StoresRight means i x me → Ends i x a homes vs from
+      right_kind h = let d : ℕ = h.number in let k : ℕ = 2 * d + 1 in let y : Option B = Some h.body in let s = slot_at i k y h.vertex h.slot in
+          subst (λ (j : ℕ). Ends j x a homes vs from) (sym h.vertex) (subst (λ (z : Vertex). Ends k z a homes vs from) (sym h.word)
+          (ends k (spawn_vertex d h.finish 1 h.inc) a homes vs from y (last_view left me.0) s
+          (spawn_right_keeps p a homes vs from.rule id me.0 from.at d h.finish h.inc h.flies
+          (known_under p a homes vs from.rule id me.0 from.at h.inc h.finish h.known) left (in_front k y s) h.body deep)
+          (last_is Spawn d h.finish me.0.running left ∙ sym (λ j. stored_in (h.flies j) me.0.running (less k y s j) me.0)) refl
+          (λ none free. last_bound k (spawn_vertex d h.finish 1 h.inc) a homes vs from Spawn d h.finish y s h.flies
+          ((flight_ok k (spawn_vertex d h.finish 1 h.inc) a homes vs from (flight_with Spawn d h.finish 3) h.flies).rest (omega arith)))))
+
+      pub kinds : MaySetVertex means i x me → Ends i x a homes vs from
+      kinds (the_end h) = end_kind h
+      kinds (the_rest h) = rest_kind h
+      kinds (the_body h) = body_kind h
+      kinds (the_left h) = left_kind h
+      kinds (the_right h) = right_kind h
+
+  pub sets_vertex : (i : ℕ) (x : Vertex) → i < 2 * p.moves → VertexFits x → MaySetVertex means i x me
+      → Allows (Held p) slots id me (vertex_place p i) (λ _. pack_vertex x) (λ _ m'. (m' ≡ at_rest (vertex_set me)) × (m'.0.ready ≤ 2 * p.moves))
+  sets_vertex i x low fit may = allow_vertex p slots id me i low (λ _. pack_vertex x) (λ _ m'. (m' ≡ at_rest (vertex_set me)) × (m'.0.ready ≤ 2 * p.moves))
+      (λ a homes vs from _ fits. let e = kinds a homes vs from i x may in
+      inl record { new = x; fits = fit; packs = refl; move = record { view = e.view; act = e.act; valid = e.valid; kept = e.kept; tells = e.tells } })

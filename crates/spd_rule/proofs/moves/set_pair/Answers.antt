@@ -1,0 +1,30 @@
+use Rattle.std.proofs.Common.{◌≡◌, ℕ, sym, subst}
+use Rattle.atomic_table.specs.Table.{Allows}
+use Rattle.atomic_table.specs.Seated.{TableId}
+use Rattle.spd_words.specs.Words.{pair_with, pack_pair}
+use Rattle.spd_rule.specs.Held.{Held}
+use Rattle.spd_rule.specs.Beside.{Mirrors}
+use Rattle.spd_rule.specs.Moves.{pair_set}
+use Rattle.spd_rule.proofs.Mirrors.{mirrors_pair, pair_due}
+use Rattle.spd_rule.proofs.Sets.{sets_pair, pair_fits}
+use Rattle.spd_rule.proofs.moves.set_pair.Goals as goal
+
+pub store-requires-clause-allows : goal.store-requires-clause-allows
+store-requires-clause-allows g c κs within = let share = c.args.share.now in let me = share.seat.me in let p = c.args.field.now.plan in
+    let slots : ℕ = c.args.field.now.table.shared.table_id.slots in
+    let q = pair_with 0 c.args.total c.args.kind c.args.first c.args.second in
+    subst (λ (x : ℕ). Allows (Held p) slots share.seat.id me c.pair_place-word.result (λ _. x)
+    (λ _ m'. m' ≡ (pair_set me.0.flight c.args.second g.P.Told.told g.Q.Told.told me.0, me.1))) (sym c.pack-pair.ensures.word)
+    (subst (λ (i : ℕ). Allows (Held p) slots share.seat.id me i (λ _. pack_pair q)
+    (λ _ m'. m' ≡ (pair_set me.0.flight c.args.second g.P.Told.told g.Q.Told.told me.0, me.1))) (sym c.pair_place-word.ensures.place)
+    (sets_pair p slots share.seat.id me c.args.d q g.P.Told.told g.Q.Told.told c.requires.numbers.pair
+    (pair_fits p c.args.field.now.lawful c.args.d q c.requires.numbers me.0 g.P.Told.told g.Q.Told.told c.requires.may) c.requires.may))
+
+pub invariant_of-share : goal.invariant_of-share
+invariant_of-share g c = let share = c.args.share.now in record {
+  mirrors = subst (λ (z : TableId). Mirrors z c.store.new.seat.me c.pair.new.self) (sym c.store.ensures.same.table)
+      (mirrors_pair share.seat.table_id share.seat.me c.store.new.seat.me share.beside c.pair.new.self share.mirrors c.args.d
+      (pair_with 0 c.args.total c.args.kind c.args.first c.args.second) g.P.Told.told g.Q.Told.told c.requires.may c.store.ensures.tells c.pair.ensures.root c.pair.ensures.spawn);
+  holds = pair_due c.args.d
+      (pair_with 0 c.args.total c.args.kind c.args.first c.args.second) g.P.Told.told g.Q.Told.told share.seat.me c.store.new.seat.me c.requires.may c.store.ensures.tells share.holds;
+}

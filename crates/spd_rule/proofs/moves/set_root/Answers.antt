@@ -1,0 +1,19 @@
+use Rattle.std.proofs.Common.{◌≡◌, ◌<◌, ℕ, sym, subst, ap, ◌∙◌}
+use Rattle.atomic_table.specs.Table.{Allows}
+use Rattle.atomic_table.specs.Seated.{TableId}
+use Rattle.spd_rule.specs.Held.{Held}
+use Rattle.spd_rule.specs.Moves.{root_set}
+use Rattle.spd_rule.proofs.Mirrors.{flies_low}
+use Rattle.spd_rule.proofs.Sets.{sets_root}
+use Rattle.spd_rule.proofs.moves.set_root.Goals as goal
+
+pub store-requires-clause-allows : goal.store-requires-clause-allows
+store-requires-clause-allows g c κs within = let share = c.args.share.now in let me = share.seat.me in let p = c.args.field.now.plan in
+    let slots : ℕ = c.args.field.now.table.shared.table_id.slots in let d : ℕ = c.args.d in
+    let low : d < p.moves = flies_low p share.seat.table_id me share.beside share.mirrors
+    (ap (λ (z : TableId). z.slots) c.requires.of ∙ c.args.field.now.deep) _ c.requires.may.flies in
+    subst (λ (x : ℕ). Allows (Held p) slots share.seat.id me c.node_place-word.result (λ _. x) (λ _ m'. m' ≡ (root_set d g.P.Told.told me.0, me.1)))
+    (sym c.pack.ensures.word)
+    (subst (λ (i : ℕ). Allows (Held p) slots share.seat.id me i (λ _. 2) (λ _ m'. m' ≡ (root_set d g.P.Told.told me.0, me.1)))
+    (sym c.node_place-word.ensures.place)
+    (sets_root p slots share.seat.id me d g.P.Told.told low c.requires.may))

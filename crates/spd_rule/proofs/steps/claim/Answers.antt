@@ -1,0 +1,18 @@
+use Rattle.std.proofs.Common.{◌≡◌, ℕ, ◌+◌, ◌%◌, ◌^◌, ◌<◌, arith, Some, sym, subst, ap, ◌∙◌}
+use Rattle.atomic_table.specs.Table.{Allows}
+use Rattle.atomic_table.specs.Seated.{TableId}
+use Rattle.spd_words.specs.Words.{pair_of}
+use Rattle.spd_state.specs.Dag.{right_in}
+use Rattle.spd_state.specs.Steps.{claim_after}
+use Rattle.spd_rule.specs.Held.{Held}
+use Rattle.spd_rule.proofs.Claims.{claims}
+use Rattle.spd_rule.proofs.steps.claim.Goals as goal
+
+pub add-old-requires-clause-allows : goal.add-old-requires-clause-allows
+add-old-requires-clause-allows g c κs within = let share = c.args.share.now in let plan = c.args.field.now.plan in
+    let slots : ℕ = c.args.field.now.table.shared.table_id.slots in let me = share.seat.me in let r = c.in-Some.running in
+    let is : me.0.running ≡ Some r = sym share.mirrors.running ∙ c.in-Some.is in let mine : r.right ≡ 1 = ap right_in (sym is) ∙ c.requires.may.right in
+    let low : r.pair < plan.moves = let i = share.mirrors.inside r c.in-Some.is in let d = c.args.field.now.deep in
+    let e : share.seat.table_id.slots ≡ slots = ap (λ (z : TableId). z.slots) c.requires.of in let i₁ = i.1 in omega arith in
+    subst (λ (i : ℕ). Allows (Held plan) slots share.seat.id me i (λ n. (n + 1) % 2 ^ 64) (λ n m'. m' ≡ (claim_after (pair_of n) me.0, me.1)))
+    (sym c.pair_place-word.ensures.place) (claims plan slots share.seat.id me r is mine c.requires.may.room low)

@@ -1,0 +1,24 @@
+-- The numbers that a share keeps beside its seat.
+use Rattle.std.specs.Prelude.{◌≡◌, ◌<◌, ◌≤◌, ◌*◌, ℕ, Option, Some, length, map}
+use Rattle.atomic_table.specs.Table.{Me}
+use Rattle.atomic_table.specs.Seated.{TableId}
+use Rattle.spd_state.specs.Sums.{count}
+use Rattle.spd_state.specs.Parts.{IsWithin}
+use Rattle.spd_state.specs.declared.view.Running.{Running}
+use Rattle.spd_state.specs.declared.view.Flight.{Flight}
+use Rattle.spd_state.specs.declared.view.View.{View}
+use Rattle.spd_rule.specs.declared.beside.Beside.{Beside}
+
+-- They are those of the share's view and slots; and what steps have told of them stands too.
+pub record Mirrors {B : Type 0} (z : TableId) (me : Me (Option B) View) (b : Beside) : Type 0 where
+  pub running : b.running ≡ me.0.running
+  pub flight : b.flight ≡ me.0.flight
+  pub units : (n : ℕ) → count n b.units.items ≡ count n me.0.held
+  pub claimed : b.claimed ≡ length me.0.claimed
+  pub told : b.told ≡ length me.0.told
+  pub spare : b.spare ≡ me.0.spare
+  pub inside : (r : Running) → b.running ≡ Some r → IsWithin z r × (r.side < 2)
+  pub flies : (f : Flight) → b.flight ≡ Some f → 2 * f.number < z.slots
+  pub few : 2 * b.told ≤ z.slots
+  pub seated : 0 < me.0.seats
+  pub slots : me.0.slots ≡ map (λ x. x.0) me.1

@@ -1,0 +1,11 @@
+pub mod Held
+pub mod Nobody
+pub mod Idle
+pub mod Rest
+pub mod Beside
+pub mod Openings
+pub mod Steps
+pub mod Moves
+pub mod Closings
+pub mod Shares
+pub mod Seats
