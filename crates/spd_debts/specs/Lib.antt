@@ -1,0 +1,4 @@
+pub mod Debts
+pub mod Worth
+pub mod Books
+pub mod Payments
