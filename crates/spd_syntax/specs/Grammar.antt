@@ -1,267 +1,384 @@
--- The programs of the language, as their tokens spell them.
+-- The grammar: a line for each construct, under the rule as a page would print it. Brackets `[ ]` mean at most once, braces
+-- `{ }` any number of times; quoted words and marks are tokens.
 --
--- program = "main" block
--- block   = "{" { stmt } "}"
--- stmt    = "let" name "=" expr ";"
---         | "let" name "=" "finish" ("sum" | "least" | "greatest") block
---         | "async" block
---         | "finish" block
---         | "offer" expr ";"
---         | "print" part { "," part } ";"
--- part    = string | expr
--- expr    = primary { "+" primary }
--- primary = number | name
---
--- A spelling is a tree with the line of each of its tokens.
-use Rattle.std.specs.Prelude.{◌≡◌, ℕ, zero, suc, pos, ◌+◌, ◌-◌, ◌*◌, ◌≤◌, Bool, true, false, if◌then◌else◌, ◌==◌, List, [], ◌∷◌}
-use Rattle.spd_syntax.specs.declared.token.Word.{Word}
+-- `f ◃ p` makes a value of p's, `p ⊛ q` is one behind the other, of which `p ⊲ q` keeps the first value and `p ▹ q` the
+-- second. `ks ⇒ p ∣ q` is p where the next token is of ks, else q: so one token is enough to read by (specs/OneAhead). Where
+-- a page's rule needs more, it is cut behind its first tokens (`let`, and an operand with the operators behind it); those
+-- rules stand in specs/PageForms as a page has them, and both forms spell the same.
+use Rattle.std.specs.Prelude.{ℕ, zero, suc, pos, Bool, true, false, List, ◌++◌, [], ◌∷◌, map, Option, Some, None, ◌&&◌, ◌==◌, if◌then◌else◌}
 use Rattle.spd_syntax.specs.declared.token.Word.TheVariants as w
 use Rattle.spd_syntax.specs.declared.token.Mark.{Mark}
 use Rattle.spd_syntax.specs.declared.token.Mark.TheVariants as m
+use Rattle.spd_syntax.specs.declared.token.TokenKind.{TokenKind}
+use Rattle.spd_syntax.specs.declared.token.TokenKind.TheVariants as kind
+use Rattle.spd_syntax.specs.declared.operators.TheConstants.{OPERATORS}
 use Rattle.spd_syntax.specs.declared.tree.BinOp.{BinOp}
-use Rattle.spd_syntax.specs.declared.tree.BinOp.TheVariants.{Add}
+use Rattle.spd_syntax.specs.declared.tree.UnOp.{UnOp}
+use Rattle.spd_syntax.specs.declared.tree.UnOp.TheVariants as u
 use Rattle.spd_syntax.specs.declared.tree.Expr.{Expr}
 use Rattle.spd_syntax.specs.declared.tree.Expr.TheVariants as e
 use Rattle.spd_syntax.specs.declared.tree.PrintPart.{PrintPart}
 use Rattle.spd_syntax.specs.declared.tree.PrintPart.TheVariants as p
-use Rattle.spd_syntax.specs.declared.tree.Collect.{Collect}
-use Rattle.spd_syntax.specs.declared.tree.Collect.TheVariants as c
+use Rattle.spd_syntax.specs.declared.tree.StmtKind.{StmtKind}
 use Rattle.spd_syntax.specs.declared.tree.StmtKind.TheVariants as s
 use Rattle.spd_syntax.specs.declared.tree.Stmt.{Stmt}
+use Rattle.spd_syntax.specs.declared.tree.Collect.{Collect}
+use Rattle.spd_syntax.specs.declared.tree.Collect.TheVariants as c
+use Rattle.spd_syntax.specs.declared.tree.ItemKind.{ItemKind}
 use Rattle.spd_syntax.specs.declared.tree.ItemKind.TheVariants as i
+use Rattle.spd_syntax.specs.declared.tree.Item.{Item}
 use Rattle.spd_syntax.specs.declared.tree.Program.{Program}
-use Rattle.spd_syntax.specs.Limits.{max_depth}
-use Rattle.spd_syntax.specs.Tokens.{name, number, lit, word, mark, Seen}
-
--- ---- what a number and a string stand for
-
-abbrev pub value_from : ℕ → List ℕ → ℕ
-value_from so_far [] = so_far
-value_from so_far (b ∷ z) = value_from (so_far * 10 + (b - 48)) z
-
--- the value of digits
-abbrev pub value_of : List ℕ → ℕ
-value_of digits = value_from 0 digits
-
-abbrev pub greatest_literal : ℕ
-greatest_literal = 9223372036854775807
-
--- the bytes up to the closing quote, without the backslashes of escapes
-abbrev pub unquoted_from : Bool → List ℕ → List ℕ
-unquoted_from escaped [] = []
-unquoted_from true (b ∷ z) = b ∷ unquoted_from false z
-unquoted_from false (b ∷ z) = if b == 34 then [] else (if b == 92 then unquoted_from true z else b ∷ unquoted_from false z)
-
--- the bytes of a string
-abbrev pub unquoted : List ℕ → List ℕ
-unquoted [] = []
-unquoted (quote ∷ z) = unquoted_from false z
+use Rattle.spd_syntax.specs.Symbols.{value_of, same_mark}
+use Rattle.spd_syntax.specs.Shape.{fst, Shape, token, give, folds, nest, Nonterminal, ByteList, NonterminalValue, expr, args, params, stmts, a_name, name_place, name_two_places, name_place_text}
+use Rattle.spd_syntax.specs.Shapes.{◌⊛◌, ◌⊲◌, ◌◃◌, ◌⇒◌∣◌, ◌▹◌, a_word, a_mark, words, word, mark, name, name_and_line, text, many, separated, between}
 
 -- ---- expressions
 
-pub data Expression : Type 0 where
-  literal : (line : ℕ) (digits : List ℕ) → Expression
-  variable : (line : ℕ) (text : List ℕ) → Expression
-  binary : BinOp → Expression → (line : ℕ) → Expression → Expression
+-- number
+unfoldable pub literal : Shape Expr
+literal = token ((kind.Number, λ bytes line. e.Number (pos (value_of bytes))) ∷ [])
 
-abbrev pub operator_mark : BinOp → Mark
-operator_mark Add = m.Plus
+-- what may stand behind a name: [ "[" expr "]" ]
+unfoldable pub behind_name : Shape (ByteList → Expr)
+behind_name = a_mark m.LeftBracket ⇒ nest expr m.LeftBracket m.RightBracket (λ l x l' n. e.Index n x) ∣ give e.Var
 
--- A lower level binds more tightly; primaries have level 0.
-abbrev pub binding_level : BinOp → ℕ
-binding_level Add = 1
+-- name [ "[" expr "]" ]
+unfoldable pub name_led : Shape Expr
+name_led = (λ n f. f n) ◃ name ⊛ behind_name
 
--- the levels that may stand on the left and on the right of an operator: the same level groups to the left
-abbrev pub left_level : BinOp → ℕ
-left_level Add = 1
+-- "(" expr ")"
+unfoldable pub parens : Shape Expr
+parens = between expr m.LeftParen m.RightParen
 
-abbrev pub right_level : BinOp → ℕ
-right_level Add = 0
+unfoldable pub len_of : Shape Expr
+len_of = e.Len ◃ (word w.Len ▹ between a_name m.LeftParen m.RightParen)
+
+unfoldable pub size_of : Shape Expr
+size_of = (λ x. e.Size x.0 x.1) ◃ (word w.Size ▹ between name_place m.LeftParen m.RightParen)
+
+unfoldable pub at_of : Shape Expr
+at_of = (λ x. e.At x.0 x.1 x.2) ◃ (word w.At ▹ between name_two_places m.LeftParen m.RightParen)
+
+unfoldable pub same_of : Shape Expr
+same_of = (λ x. e.Same x.0 x.1 x.2) ◃ (word w.Same ▹ between name_place_text m.LeftParen m.RightParen)
+
+unfoldable pub begins_of : Shape Expr
+begins_of = (λ x. e.Begins x.0 x.1 x.2) ◃ (word w.Begins ▹ between name_place_text m.LeftParen m.RightParen)
+
+-- a primary that doesn't begin with a name:
+-- number | "(" expr ")" | "len" "(" name ")" | "size" "(" name "," expr ")" | "at" "(" name "," expr "," expr ")"
+--   | "same" "(" name "," expr "," string ")" | "begins" "(" name "," expr "," string ")"
+unfoldable pub nameless : Shape Expr
+nameless =
+    (kind.Number ∷ []) ⇒ literal
+    ∣ (a_word w.Len ⇒ len_of
+    ∣ (a_word w.Size ⇒ size_of
+    ∣ (a_word w.At ⇒ at_of
+    ∣ (a_word w.Same ⇒ same_of
+    ∣ (a_word w.Begins ⇒ begins_of
+    ∣ parens)))))
+
+-- primary = nameless | name [ "[" expr "]" ]
+unfoldable pub primary : Shape Expr
+primary = (kind.Name ∷ []) ⇒ name_led ∣ nameless
+
+-- "-" | "!"
+unfoldable pub unary_operator : Shape UnOp
+unary_operator = token ((kind.Mark m.Minus, λ bytes line. u.Neg) ∷ (kind.Mark m.Not, λ bytes line. u.Not) ∷ [])
+
+unfoldable pub signed : Shape Expr
+signed = e.Unary ◃ unary_operator ⊛ primary
+
+abbrev pub a_sign : List TokenKind
+a_sign = kind.Mark m.Minus ∷ kind.Mark m.Not ∷ []
+
+-- unary = [ "-" | "!" ] primary
+unfoldable pub unary : Shape Expr
+unary = a_sign ⇒ signed ∣ primary
+
+-- an operand that doesn't begin with a name
+unfoldable pub nameless_unary : Shape Expr
+nameless_unary = a_sign ⇒ signed ∣ nameless
+
+abbrev pub comparisons : ℕ
+comparisons = 3
 
 abbrev pub top : ℕ
-top = 1
+top = 5
 
--- An expression may stand where a level is wanted.
-abbrev pub IsAt : ℕ → Expression → Type 0
-IsAt level (literal l digits) = Unit {0}
-IsAt level (variable l text) = Unit {0}
-IsAt level (binary op x l y) = (binding_level op ≤ level) × IsAt (left_level op) x × IsAt (right_level op) y
+abbrev pub Row : Type 0
+Row = Mark × BinOp × ℕ
 
--- the tokens, before those that follow
-abbrev pub expression_tokens : Expression → List Seen → List Seen
-expression_tokens (literal l digits) r = (number digits, l) ∷ r
-expression_tokens (variable l text) r = (name text, l) ∷ r
-expression_tokens (binary op x l y) r = expression_tokens x ((mark (operator_mark op), l) ∷ expression_tokens y r)
+-- the operators of a level, by their marks
+abbrev pub of_level : ℕ → List Row → List (TokenKind × BinOp)
+of_level level [] = []
+of_level level (row ∷ rows) = if row.2 == level then (kind.Mark row.0, row.1) ∷ of_level level rows else of_level level rows
 
-abbrev pub expression_tree : Expression → Expr
-expression_tree (literal l digits) = e.Number (pos (value_of digits))
-expression_tree (variable l text) = e.Var text
-expression_tree (binary op x l y) = e.Binary op (expression_tree x) (expression_tree y)
+abbrev pub by_mark : TokenKind × BinOp → TokenKind × (List ℕ → ℕ → BinOp)
+by_mark row = (row.0, λ bytes line. row.1)
 
--- No literal is too great.
-abbrev pub ExpressionWithin : Expression → Type 0
-ExpressionWithin (literal l digits) = value_of digits ≤ greatest_literal
-ExpressionWithin (variable l text) = Unit {0}
-ExpressionWithin (binary op x l y) = ExpressionWithin x × ExpressionWithin y
+unfoldable pub operators : ℕ → List TokenKind
+operators level = map fst (of_level level OPERATORS)
 
--- ---- the parts of a print
+unfoldable pub operator : ℕ → Shape BinOp
+operator level = token (map by_mark (of_level level OPERATORS))
 
-pub data Part : Type 0 where
-  quoted : (line : ℕ) (text : List ℕ) → Part
-  valued : Expression → Part
+-- the operator of a level that a mark is
+unfoldable pub operator_in : ℕ → Mark → List Row → Option BinOp
+operator_in level which [] = None
+operator_in level which (row ∷ rows) = if row.2 == level && same_mark row.0 which then Some row.1 else operator_in level which rows
 
-abbrev pub IsPart : Part → Type 0
-IsPart (quoted l text) = Unit {0}
-IsPart (valued x) = IsAt top x
+abbrev pub into : Expr → (Expr → Expr) → Expr
+into x f = f x
 
-abbrev pub part_tokens : Part → List Seen → List Seen
-part_tokens (quoted l text) r = (lit text, l) ∷ r
-part_tokens (valued x) r = expression_tokens x r
+-- an operator with its right operand
+unfoldable pub operation : ℕ → Shape Expr → Shape (Expr → Expr)
+operation level operand = (λ op y x. e.Binary op x y) ◃ operator level ⊛ operand
 
-abbrev pub part_tree : Part → PrintPart
-part_tree (quoted l text) = p.Lit (unquoted text)
-part_tree (valued x) = p.Value (expression_tree x)
+abbrev pub compose : (Expr → Expr) → (Expr → Expr) → Expr → Expr
+compose f g x = g (f x)
 
-abbrev pub PartWithin : Part → Type 0
-PartWithin (quoted l text) = Unit {0}
-PartWithin (valued x) = ExpressionWithin x
+-- the operators of a level, with their right operands: one or none, or any number
+abbrev pub operations : Bool → ℕ → Shape (Expr → Expr) → Shape Expr → Shape (Expr → Expr)
+operations true level before operand = compose ◃ before ⊛ (operators level ⇒ operation level operand ∣ give (λ x. x))
+operations false level before operand = folds (operators level) compose before (operation level operand)
 
--- { "," part }
-pub data MoreParts : Type 0 where
-  no_parts : MoreParts
-  comma : (line : ℕ) → Part → MoreParts → MoreParts
+-- What may stand behind an operand, up to the operators of a level. Comparisons don't group; the others group to the left.
+unfoldable pub behind_operand : ℕ → Shape (Expr → Expr)
+behind_operand zero = give (λ x. x)
+behind_operand (suc level) = operations (suc level == comparisons) (suc level) (behind_operand level) (into ◃ unary ⊛ behind_operand level)
 
-abbrev pub AreParts : MoreParts → Type 0
-AreParts no_parts = Unit {0}
-AreParts (comma l x xs) = IsPart x × AreParts xs
+-- an operand and the operators behind it, up to those of a level
+abbrev pub at_level : ℕ → Shape Expr
+at_level level = into ◃ unary ⊛ behind_operand level
 
-abbrev pub parts_tokens : MoreParts → List Seen → List Seen
-parts_tokens no_parts r = r
-parts_tokens (comma l x xs) r = (mark m.Comma, l) ∷ part_tokens x (parts_tokens xs r)
+-- expr: the levels rise from `||` over `&&`, comparisons and `+ -` to `* / %`
+unfoldable pub expression : Shape Expr
+expression = at_level top
 
-abbrev pub parts_trees : MoreParts → List PrintPart
-parts_trees no_parts = []
-parts_trees (comma l x xs) = part_tree x ∷ parts_trees xs
+-- the first tokens of an expression
+abbrev pub an_expression : List TokenKind
+an_expression =
+    kind.Number ∷ kind.Name ∷ kind.Mark m.LeftParen ∷ kind.Mark m.Minus ∷ kind.Mark m.Not
+    ∷ kind.Word w.Len ∷ kind.Word w.Size ∷ kind.Word w.At ∷ kind.Word w.Same ∷ kind.Word w.Begins ∷ []
 
-abbrev pub PartsWithin : MoreParts → Type 0
-PartsWithin no_parts = Unit {0}
-PartsWithin (comma l x xs) = PartWithin x × PartsWithin xs
+-- ---- the parts of a print, and arguments
 
--- ---- statements and blocks
+unfoldable pub quoted : Shape PrintPart
+quoted = p.Lit ◃ text
 
-abbrev pub collect_word : Collect → Word
-collect_word c.Sum = w.Sum
-collect_word c.Least = w.Least
-collect_word c.Greatest = w.Greatest
+-- part = string | expr
+unfoldable pub part : Shape PrintPart
+part = (kind.Lit ∷ []) ⇒ quoted ∣ (p.Value ◃ expression)
 
-mutual
-  pub data Statement : Type 0 where
-    binding : (line name_line : ℕ) (text : List ℕ) (equals_line : ℕ) → Expression → (end_line : ℕ) → Statement
-    collecting : (line name_line : ℕ) (text : List ℕ) (equals_line finish_line kind_line : ℕ) → Collect → Body → Statement
-    beginning : (line : ℕ) → Body → Statement
-    finishing : (line : ℕ) → Body → Statement
-    offering : (line : ℕ) → Expression → (end_line : ℕ) → Statement
-    printing : (line : ℕ) → Part → MoreParts → (end_line : ℕ) → Statement
+-- part { "," part }
+unfoldable pub parts : Shape (List PrintPart)
+parts = separated part
 
-  pub data Body : Type 0 where
-    body : (open_line : ℕ) → Statements → (close_line : ℕ) → Body
+-- [ expr { "," expr } ]
+unfoldable pub arguments : Shape (List Expr)
+arguments = an_expression ⇒ separated expression ∣ give []
 
-  -- { stmt }
-  pub data Statements : Type 0 where
-    no_statements : Statements
-    next : Statement → Statements → Statements
+-- [ name { "," name } ]
+unfoldable pub parameters : Shape (List ByteList)
+parameters = (kind.Name ∷ []) ⇒ separated name ∣ give []
 
-abbrev mutual
-  pub IsStatement : Statement → Type 0
-  IsStatement (binding l nl text el x l') = IsAt top x
-  IsStatement (collecting l nl text el fl kl kind b) = IsBody b
-  IsStatement (beginning l b) = IsBody b
-  IsStatement (finishing l b) = IsBody b
-  IsStatement (offering l x l') = IsAt top x
-  IsStatement (printing l x xs l') = IsPart x × AreParts xs
+-- ---- statements
 
-  pub IsBody : Body → Type 0
-  IsBody (body l xs l') = AreStatements xs
+abbrev pub stmt : ℕ → StmtKind → Stmt
+stmt line what = record { line = line; what = what }
 
-  pub AreStatements : Statements → Type 0
-  AreStatements no_statements = Unit {0}
-  AreStatements (next x xs) = IsStatement x × AreStatements xs
+-- block = "{" { stmt } "}"
+abbrev pub block : Shape (List Stmt)
+block = between stmts m.LeftBrace m.RightBrace
 
-abbrev mutual
-  pub statement_tokens : Statement → List Seen → List Seen
-  statement_tokens (binding l nl text el x l') r = (word w.Let, l) ∷ (name text, nl) ∷ (mark m.Assign, el) ∷ expression_tokens x ((mark m.Semicolon, l') ∷ r)
-  statement_tokens (collecting l nl text el fl kl kind b) r =
-      (word w.Let, l) ∷ (name text, nl) ∷ (mark m.Assign, el) ∷ (word w.Finish, fl) ∷ (word (collect_word kind), kl) ∷ body_tokens b r
-  statement_tokens (beginning l b) r = (word w.Async, l) ∷ body_tokens b r
-  statement_tokens (finishing l b) r = (word w.Finish, l) ∷ body_tokens b r
-  statement_tokens (offering l x l') r = (word w.Offer, l) ∷ expression_tokens x ((mark m.Semicolon, l') ∷ r)
-  statement_tokens (printing l x xs l') r = (word w.Print, l) ∷ part_tokens x (parts_tokens xs ((mark m.Semicolon, l') ∷ r))
+-- "(" [ expr { "," expr } ] ")"
+abbrev pub called : Shape (List Expr)
+called = between args m.LeftParen m.RightParen
 
-  pub body_tokens : Body → List Seen → List Seen
-  body_tokens (body l xs l') r = (mark m.LeftBrace, l) ∷ statements_tokens xs ((mark m.RightBrace, l') ∷ r)
+-- "sum" | "least" | "greatest"
+unfoldable pub collect_kind : Shape Collect
+collect_kind = words ((w.Sum, c.Sum) ∷ (w.Least, c.Least) ∷ (w.Greatest, c.Greatest) ∷ [])
 
-  pub statements_tokens : Statements → List Seen → List Seen
-  statements_tokens no_statements r = r
-  statements_tokens (next x xs) r = statement_tokens x (statements_tokens xs r)
+-- what stands behind `let name =`, by the line of `let` and the name
+abbrev pub Letting : Type 0
+Letting = ℕ → ByteList → Stmt
 
-abbrev mutual
-  pub statement_tree : Statement → Stmt
-  statement_tree (binding l nl text el x l') = record { line = l; what = s.Let text (expression_tree x) }
-  statement_tree (collecting l nl text el fl kl kind b) = record { line = l; what = s.LetFinish text kind (body_trees b) }
-  statement_tree (beginning l b) = record { line = l; what = s.Async (body_trees b) }
-  statement_tree (finishing l b) = record { line = l; what = s.Finish (body_trees b) }
-  statement_tree (offering l x l') = record { line = l; what = s.Offer (expression_tree x) }
-  statement_tree (printing l x xs l') = record { line = l; what = s.Print (part_tree x ∷ parts_trees xs) }
+-- "finish" ("sum" | "least" | "greatest") block
+unfoldable pub let_finish : Shape Letting
+let_finish = (λ kind body l n. stmt l (s.LetFinish n kind body)) ◃ (word w.Finish ▹ collect_kind) ⊛ block
 
-  pub body_trees : Body → List Stmt
-  body_trees (body l xs l') = statements_trees xs
+-- what stands behind `let name = name`, by that name
+-- "(" [ expr { "," expr } ] ")" ";"
+unfoldable pub let_call : Shape (ByteList → Letting)
+let_call = (λ xs callee l n. stmt l (s.LetCall n callee xs)) ◃ called ⊲ mark m.Semicolon
 
-  pub statements_trees : Statements → List Stmt
-  statements_trees no_statements = []
-  statements_trees (next x xs) = statement_tree x ∷ statements_trees xs
+-- the rest of an expression, ";"
+unfoldable pub let_named : Shape (ByteList → Letting)
+let_named = (λ f g first l n. stmt l (s.Let n (g (f first)))) ◃ behind_name ⊛ behind_operand top ⊲ mark m.Semicolon
 
--- At most so many further braces are open at once, and no literal is too great.
-abbrev mutual
-  pub StatementWithin : ℕ → Statement → Type 0
-  StatementWithin depth (binding l nl text el x l') = ExpressionWithin x
-  StatementWithin depth (collecting l nl text el fl kl kind b) = BodyWithin depth b
-  StatementWithin depth (beginning l b) = BodyWithin depth b
-  StatementWithin depth (finishing l b) = BodyWithin depth b
-  StatementWithin depth (offering l x l') = ExpressionWithin x
-  StatementWithin depth (printing l x xs l') = PartWithin x × PartsWithin xs
+-- name, and a call or the rest of an expression
+unfoldable pub let_name : Shape Letting
+let_name = (λ first f. f first) ◃ name ⊛ (a_mark m.LeftParen ⇒ let_call ∣ let_named)
 
-  pub BodyWithin : ℕ → Body → Type 0
-  BodyWithin zero (body l xs l') = ⊥
-  BodyWithin (suc depth) (body l xs l') = StatementsWithin depth xs
+unfoldable pub nameless_expression : Shape Expr
+nameless_expression = into ◃ nameless_unary ⊛ behind_operand top
 
-  pub StatementsWithin : ℕ → Statements → Type 0
-  StatementsWithin depth no_statements = Unit {0}
-  StatementsWithin depth (next x xs) = StatementWithin depth x × StatementsWithin depth xs
+-- expr ";"
+unfoldable pub let_nameless : Shape Letting
+let_nameless = (λ x l n. stmt l (s.Let n x)) ◃ nameless_expression ⊲ mark m.Semicolon
 
--- ---- programs
+unfoldable pub let_value : Shape Letting
+let_value = a_word w.Finish ⇒ let_finish ∣ ((kind.Name ∷ []) ⇒ let_name ∣ let_nameless)
 
-pub data Main : Type 0 where
-  main : (line : ℕ) → Body → Main
+-- "let" name "=" (expr ";" | name "(" [ expr { "," expr } ] ")" ";" | "finish" ("sum" | "least" | "greatest") block)
+unfoldable pub let_statement : Shape Stmt
+let_statement = (λ l n f. f l n) ◃ word w.Let ⊛ name ⊲ mark m.Assign ⊛ let_value
 
-abbrev pub IsMain : Main → Type 0
-IsMain (main l b) = IsBody b
+-- name "=" expr ";"
+unfoldable pub assign_statement : Shape Stmt
+assign_statement = (λ n x. stmt n.1 (s.Assign n.0 x)) ◃ name_and_line ⊲ mark m.Assign ⊛ expression ⊲ mark m.Semicolon
 
-abbrev pub main_tokens : Main → List Seen
-main_tokens (main l b) = (word w.Main, l) ∷ body_tokens b []
+-- [ "else" block ]
+unfoldable pub otherwise : Shape (List Stmt)
+otherwise = a_word w.Else ⇒ (word w.Else ▹ block) ∣ give []
 
-abbrev pub last_line : Body → ℕ
-last_line (body l xs l') = l'
+-- "if" expr block [ "else" block ]
+unfoldable pub if_statement : Shape Stmt
+if_statement = (λ l x yes no. stmt l (s.If x yes no)) ◃ word w.If ⊛ expression ⊛ block ⊛ otherwise
 
-abbrev pub main_tree : Main → Program
-main_tree (main l b) = record { items = record { line = l; what = i.Main (body_trees b) } ∷ []; last_line = last_line b }
+-- "for" name "in" expr ".." expr block
+unfoldable pub for_statement : Shape Stmt
+for_statement = (λ l n x y body. stmt l (s.For n x y body)) ◃ word w.For ⊛ name ⊲ word w.In ⊛ expression ⊲ mark m.DotDot ⊛ expression ⊛ block
 
-abbrev pub MainWithin : Main → Type 0
-MainWithin (main l b) = BodyWithin max_depth b
+-- "async" block
+unfoldable pub async_statement : Shape Stmt
+async_statement = (λ l body. stmt l (s.Async body)) ◃ word w.Async ⊛ block
 
--- The tokens spell the program.
-pub record Spells (tokens : List Seen) (program : Program) : Type 0 where
-  pub spelled : Main
-  pub is : IsMain spelled
-  pub tokens_are : tokens ≡ main_tokens spelled
-  pub tree_is : program ≡ main_tree spelled
-  pub within : MainWithin spelled
+-- "finish" block
+unfoldable pub finish_statement : Shape Stmt
+finish_statement = (λ l body. stmt l (s.Finish body)) ◃ word w.Finish ⊛ block
+
+-- "offer" expr ";"
+unfoldable pub offer_statement : Shape Stmt
+offer_statement = (λ l x. stmt l (s.Offer x)) ◃ word w.Offer ⊛ expression ⊲ mark m.Semicolon
+
+-- "run" name "(" [ expr { "," expr } ] ")" ";"
+unfoldable pub run_statement : Shape Stmt
+run_statement = (λ l n xs. stmt l (s.Run n xs)) ◃ word w.Run ⊛ name ⊛ called ⊲ mark m.Semicolon
+
+-- "return" expr ";"
+unfoldable pub return_statement : Shape Stmt
+return_statement = (λ l x. stmt l (s.Return x)) ◃ word w.Return ⊛ expression ⊲ mark m.Semicolon
+
+-- "print" part { "," part } ";"
+unfoldable pub print_statement : Shape Stmt
+print_statement = (λ l ps. stmt l (s.Print ps)) ◃ word w.Print ⊛ parts ⊲ mark m.Semicolon
+
+-- stmt
+unfoldable pub statement : Shape Stmt
+statement =
+    a_word w.Let ⇒ let_statement
+    ∣ ((kind.Name ∷ []) ⇒ assign_statement
+    ∣ (a_word w.If ⇒ if_statement
+    ∣ (a_word w.For ⇒ for_statement
+    ∣ (a_word w.Async ⇒ async_statement
+    ∣ (a_word w.Finish ⇒ finish_statement
+    ∣ (a_word w.Offer ⇒ offer_statement
+    ∣ (a_word w.Run ⇒ run_statement
+    ∣ (a_word w.Return ⇒ return_statement
+    ∣ print_statement))))))))
+
+-- the first tokens of a statement
+abbrev pub a_statement : List TokenKind
+a_statement =
+    kind.Name ∷ kind.Word w.Let ∷ kind.Word w.If ∷ kind.Word w.For ∷ kind.Word w.Async ∷ kind.Word w.Finish
+    ∷ kind.Word w.Offer ∷ kind.Word w.Run ∷ kind.Word w.Return ∷ kind.Word w.Print ∷ []
+
+-- { stmt }
+unfoldable pub statements : Shape (List Stmt)
+statements = many a_statement statement
+
+-- ---- items, with the line of their last token
+
+abbrev pub item : ℕ → ItemKind → ℕ → Item × ℕ
+item line what last = (record { line = line; what = what }, last)
+
+-- a block with the line of its last token
+abbrev pub body : Shape (List Stmt × ℕ)
+body = nest stmts m.LeftBrace m.RightBrace (λ l xs l'. (xs, l'))
+
+-- an item by its name, its file and its field
+abbrev pub Column : Type 0
+Column = ByteList → ByteList → ByteList → ItemKind
+
+-- "int" | "text"
+unfoldable pub column_type : Shape Column
+column_type = words ((w.Int, i.IntColumn) ∷ (w.Text, i.TextColumn) ∷ [])
+
+-- "column" name ":" ("int" | "text") "from" string "field" string ";"
+unfoldable pub column_item : Shape (Item × ℕ)
+column_item = (λ l n column file field last. item l (column n file field) last) ◃ word w.Column ⊛ name ⊲ mark m.Colon ⊛ column_type ⊲ word w.From ⊛ text ⊲ word w.Field ⊛ text ⊛ mark m.Semicolon
+
+-- "lines" name "from" string ";"
+unfoldable pub lines_item : Shape (Item × ℕ)
+lines_item = (λ l n file last. item l (i.Lines n file) last) ◃ word w.Lines ⊛ name ⊲ word w.From ⊛ text ⊛ mark m.Semicolon
+
+abbrev pub between_params : Shape (List ByteList)
+between_params = between params m.LeftParen m.RightParen
+
+-- "fn" name "(" [ name { "," name } ] ")" block
+unfoldable pub function_item : Shape (Item × ℕ)
+function_item = (λ l n ps b. item l (i.Function n ps b.0) b.1) ◃ word w.Fn ⊛ name ⊛ between_params ⊛ body
+
+-- "task" name "(" [ name { "," name } ] ")" block
+unfoldable pub task_item : Shape (Item × ℕ)
+task_item = (λ l n ps b. item l (i.Task n ps b.0) b.1) ◃ word w.Task ⊛ name ⊛ between_params ⊛ body
+
+-- "main" block
+unfoldable pub main_item : Shape (Item × ℕ)
+main_item = (λ l b. item l (i.Main b.0) b.1) ◃ word w.Main ⊛ body
+
+-- item
+unfoldable pub any_item : Shape (Item × ℕ)
+any_item =
+    a_word w.Column ⇒ column_item
+    ∣ (a_word w.Lines ⇒ lines_item
+    ∣ (a_word w.Fn ⇒ function_item
+    ∣ (a_word w.Task ⇒ task_item
+    ∣ main_item)))
+
+-- the first tokens of an item
+abbrev pub an_item : List TokenKind
+an_item = kind.Word w.Column ∷ kind.Word w.Lines ∷ kind.Word w.Fn ∷ kind.Word w.Task ∷ kind.Word w.Main ∷ []
+
+abbrev pub with_item : Program → Item × ℕ → Program
+with_item so_far x = record { items = so_far.items ++ x.0 ∷ []; last_line = x.1 }
+
+-- program = { item }
+unfoldable pub program : Shape Program
+program = folds an_item with_item (give (record { items = []; last_line = 1 })) any_item
+
+-- ---- what stands between brackets
+
+-- name "," expr
+unfoldable pub place : Shape (ByteList × Expr)
+place = (λ n x. (n, x)) ◃ name ⊲ mark m.Comma ⊛ expression
+
+-- name "," expr "," expr
+unfoldable pub two_places : Shape (ByteList × Expr × Expr)
+two_places = (λ n x y. (n, x, y)) ◃ name ⊲ mark m.Comma ⊛ expression ⊲ mark m.Comma ⊛ expression
+
+-- name "," expr "," string
+unfoldable pub place_text : Shape (ByteList × Expr × ByteList)
+place_text = (λ n x y. (n, x, y)) ◃ name ⊲ mark m.Comma ⊛ expression ⊲ mark m.Comma ⊛ text
+
+abbrev pub grammar : (rule : Nonterminal) → Shape (NonterminalValue rule)
+grammar expr = expression
+grammar args = arguments
+grammar params = parameters
+grammar stmts = statements
+grammar a_name = name
+grammar name_place = place
+grammar name_two_places = two_places
+grammar name_place_text = place_text

@@ -1,3 +1,13 @@
 pub mod Tokens
+pub mod Symbols
+pub mod Shape
+pub mod Shapes
 pub mod Grammar
+pub mod PageForms
+pub mod OneAhead
 pub mod Limits
+pub mod Faults
+pub mod Canonical
+pub mod Layout
+pub mod Lines
+pub mod Texts

@@ -74,13 +74,13 @@ word_of text = lookup (map (λ entry. (entry.0.now, entry.1)) WORDS) text
 abbrev pub mark_of : List ℕ → Option Mark
 mark_of text = lookup (map (λ entry. (entry.0.now, entry.1)) MARKS) text
 
-abbrev pub kind_of : Option Word → TokenKind
-kind_of None = kind.Name
-kind_of (Some which) = kind.Word which
+abbrev pub kind_of_word : Option Word → TokenKind
+kind_of_word None = kind.Name
+kind_of_word (Some which) = kind.Word which
 
 -- a word of the language, or a name
 unfoldable pub word_or_name : List ℕ → TokenKind
-word_or_name text = kind_of (word_of text)
+word_or_name text = kind_of_word (word_of text)
 
 abbrev pub or_else : {A : Type 0} → Option A → Option A → Option A
 or_else None other = other

@@ -9,10 +9,32 @@ pub type Name = Seq<u8>;
 /// The bytes of a string, without its quotes and the backslashes of its escapes.
 pub type Lit = Seq<u8>;
 
+/// The names of parameters.
+pub type Names = Seq<Name>;
+
+/// An operator before an operand.
+#[derive(Clone, Copy, Debug, PartialEq, Eq)]
+pub enum UnOp {
+    Neg,
+    Not,
+}
+
 /// An operator between two operands.
 #[derive(Clone, Copy, Debug, PartialEq, Eq)]
 pub enum BinOp {
+    Or,
+    And,
+    Eq,
+    Ne,
+    Lt,
+    Le,
+    Gt,
+    Ge,
     Add,
+    Sub,
+    Mul,
+    Div,
+    Rem,
 }
 
 /// An expression.
@@ -20,8 +42,18 @@ pub enum BinOp {
 pub enum Expr {
     Number(i64),
     Var(Name),
+    Unary(UnOp, Boxed<Expr>),
     Binary(BinOp, Boxed<Expr>, Boxed<Expr>),
+    Len(Name),
+    Index(Name, Boxed<Expr>),
+    Size(Name, Boxed<Expr>),
+    At(Name, Boxed<Expr>, Boxed<Expr>),
+    Same(Name, Boxed<Expr>, Lit),
+    Begins(Name, Boxed<Expr>, Lit),
 }
+
+/// The arguments of a call.
+pub type Exprs = Seq<Expr>;
 
 /// A part of a `print`: a string, or an expression whose value is printed.
 #[derive(Drop)]
@@ -49,9 +81,29 @@ pub enum StmtKind {
         name: Name,
         value: Expr,
     },
+    LetCall {
+        name: Name,
+        callee: Name,
+        args: Exprs,
+    },
     LetFinish {
         name: Name,
         kind: Collect,
+        body: Block,
+    },
+    Assign {
+        name: Name,
+        value: Expr,
+    },
+    If {
+        cond: Expr,
+        yes: Block,
+        no: Block,
+    },
+    For {
+        name: Name,
+        from: Expr,
+        to: Expr,
         body: Block,
     },
     Async {
@@ -61,6 +113,13 @@ pub enum StmtKind {
         body: Block,
     },
     Offer {
+        value: Expr,
+    },
+    Run {
+        callee: Name,
+        args: Exprs,
+    },
+    Return {
         value: Expr,
     },
     Print {
@@ -82,7 +141,33 @@ pub type Block = Seq<Stmt>;
 /// What an item declares.
 #[derive(Drop)]
 pub enum ItemKind {
-    Main { body: Block },
+    IntColumn {
+        name: Name,
+        file: Lit,
+        field: Lit,
+    },
+    TextColumn {
+        name: Name,
+        file: Lit,
+        field: Lit,
+    },
+    Lines {
+        name: Name,
+        file: Lit,
+    },
+    Function {
+        name: Name,
+        params: Names,
+        body: Block,
+    },
+    Task {
+        name: Name,
+        params: Names,
+        body: Block,
+    },
+    Main {
+        body: Block,
+    },
 }
 
 /// An item, with the line of its first token.
