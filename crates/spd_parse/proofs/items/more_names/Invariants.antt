@@ -1,0 +1,9 @@
+use Rattle.std.proofs.Common.{◌≡◌, ◌-◌, [], ◌∷◌}
+use Rattle.spd_syntax.specs.declared.token.Mark.TheVariants.{Comma}
+use Rattle.spd_syntax.specs.Symbols.{all_seen}
+use Rattle.spd_read.specs.Reading.{repeat, step, loops}
+use Rattle.spd_syntax.specs.Shapes.{after_mark, snoc, a_mark, name}
+use Rattle.spd_parse.proofs.items.more_names.Given as goal
+
+abbrev pub invariant-loop : goal.invariant-loop
+invariant-loop l = repeat (a_mark Comma) (step 0 snoc (after_mark Comma name)) (l.limit - l.counter) l.found (all_seen l.text l.rest) ≡ loops 0 (a_mark Comma) snoc (after_mark Comma name) (l.fn.first ∷ []) (all_seen l.text l.fn.tokens)
