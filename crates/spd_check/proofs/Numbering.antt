@@ -18,12 +18,10 @@ use Rattle.spd_check.specs.Finding.{IsCoded, IsIn, nexts}
 -- The block of a statement is the code of its statements, from the next number on.
 kind_body : (k : s.StmtKind-F StmtKind Stmt) (names : Names) (next : ℕ) (body : CodeBlock) → block_at (out-CodeStmtKind (kind_code (map-StmtKind StmtKind Stmt (Resolved CodeStmtKind) (Resolved CodeStmt) kind_resolved statement_resolved k) names next)) ≡ Some body → (inner : List Stmt) × (body ≡ resolved_block names next inner) × (kind_blocks (map-StmtKind StmtKind Stmt (Resolved CodeStmtKind) (Resolved CodeStmt) kind_resolved statement_resolved k) ≡ suc (blocks_in (map statement_resolved inner)))
 unfolding out-CodeStmtKind denote.Hole.Carrier.out resolved_block
-kind_body (s.Let name value) names next body e = absurd cc
 kind_body (s.LetFinish name kind inner) names next body e = (inner, cc, refl)
 kind_body (s.Async inner) names next body e = (inner, cc, refl)
 kind_body (s.Finish inner) names next body e = (inner, cc, refl)
-kind_body (s.Offer value) names next body e = absurd cc
-kind_body (s.Print parts) names next body e = absurd cc
+kind_body _ names next body e = absurd cc
 
 stmt_is : (s : Stmt) → statement_resolved s ≡ resolve_line_step (record { line = s.line; what = kind_resolved s.what })
 stmt_is s = fold_out-Stmt (Resolved CodeStmtKind) (Resolved CodeStmt) resolve_kind_step resolve_line_step s

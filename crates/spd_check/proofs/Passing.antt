@@ -28,11 +28,9 @@ answers_more answer fault faults others given e f = rw e (λ k. first_more fault
 -- Checks and code bind the same names: what stands for the blocks plays no part.
 binds_mapped : {A B C D E F : Type 0} (f : E → A) (g : F → B) (h : E → C) (k : F → D) (kind : s.StmtKind-F E F) → binds (map-StmtKind E F A B f g kind) ≡ binds (map-StmtKind E F C D h k kind)
 binds_mapped f g h k (s.Let name value) = refl
+binds_mapped f g h k (s.LetCall name callee args) = refl
 binds_mapped f g h k (s.LetFinish name kind body) = refl
-binds_mapped f g h k (s.Async body) = refl
-binds_mapped f g h k (s.Finish body) = refl
-binds_mapped f g h k (s.Offer value) = refl
-binds_mapped f g h k (s.Print parts) = refl
+binds_mapped f g h k _ = refl
 
 kind_binds : (kind : StmtKind) → (kind_checked kind).0 ≡ (kind_resolved kind).binds
 kind_binds kind = ap (λ r. r.0) (fold_out-StmtKind CheckedKind Checked checks.check_kind_step checks.check_line_step kind) ∙ (binds_mapped kind_checked statement_checked kind_resolved statement_resolved (out-StmtKind kind) ∙ sym (ap (λ r. r.binds) (fold_out-StmtKind (Resolved CodeStmtKind) (Resolved CodeStmt) resolved.resolve_kind_step resolved.resolve_line_step kind)))

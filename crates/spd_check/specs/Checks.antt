@@ -1,5 +1,8 @@
 -- The checks of a program. All its faults stand in the order of the text, and the first is told.
-use Rattle.std.specs.Prelude.{◌≡◌, ◌≢◌, ℕ, Bool, true, false, if◌then◌else◌, List, [], ◌∷◌, ◌++◌, map, flat_map, Option, None, Some, Result, Ok, Err}
+-- A construct that isn't built yet is such a fault, whatever stands in it.
+use Rattle.std.specs.Prelude.{◌≡◌, ◌≢◌, ℕ, Bool, true, false, if◌then◌else◌, List, [], ◌∷◌, ◌++◌, map, flat_map, filter, Option, None, Some, Result, Ok, Err}
+use Rattle.spd_syntax.specs.declared.tree.BinOp.{BinOp}
+use Rattle.spd_syntax.specs.declared.tree.BinOp.TheVariants.{Add}
 use Rattle.spd_syntax.specs.declared.tree.Expr.{Expr, fold-Expr}
 use Rattle.spd_syntax.specs.declared.tree.Expr.TheOpen.{Expr-F}
 use Rattle.spd_syntax.specs.declared.tree.PrintPart.{PrintPart}
@@ -11,7 +14,7 @@ use Rattle.spd_syntax.specs.declared.tree.ItemKind.TheVariants as i
 use Rattle.spd_syntax.specs.declared.tree.Item.{Item}
 use Rattle.spd_syntax.specs.declared.tree.Program.{Program}
 use Rattle.spd_check.specs.declared.faults.CheckKind.{CheckKind}
-use Rattle.spd_check.specs.declared.faults.CheckKind.TheVariants.{Unknown, Twice, AsyncOutside, OfferOutside, PrintPlace, NoMain, NoMemory}
+use Rattle.spd_check.specs.declared.faults.CheckKind.TheVariants.{Unknown, Twice, AsyncOutside, OfferOutside, PrintPlace, NoMain, NotBuilt, NoMemory}
 use Rattle.spd_check.specs.declared.faults.CheckFault.{CheckFault}
 use Rattle.spd_check.specs.Names.{Names, is_visible, binds}
 
@@ -22,12 +25,22 @@ abbrev pub fault_where : Bool → ℕ → CheckKind → Faults
 fault_where true line kind = record { line = line; kind = kind } ∷ []
 fault_where false line kind = []
 
+-- what isn't built yet
+abbrev pub unbuilt : ℕ → Faults
+unbuilt line = record { line = line; kind = NotBuilt } ∷ []
+
 -- ---- expressions: each name is visible
+
+-- Of the operators between two operands the sum alone is built.
+abbrev pub operator_faults : ℕ → BinOp → Faults
+operator_faults line Add = []
+operator_faults line _ = unbuilt line
 
 abbrev pub check_expression_step : Names → ℕ → Expr-F Faults → Faults
 check_expression_step names line (Expr-F.Number n) = []
 check_expression_step names line (Expr-F.Var name) = fault_where (if is_visible names name then false else true) line Unknown
-check_expression_step names line (Expr-F.Binary op left right) = left ++ right
+check_expression_step names line (Expr-F.Binary op left right) = left ++ (operator_faults line op ++ right)
+check_expression_step names line _ = unbuilt line
 
 abbrev pub expression_faults : Names → ℕ → Expr → Faults
 expression_faults names line = fold-Expr Faults (check_expression_step names line)
@@ -70,6 +83,7 @@ kind_faults (s.Async body) line names inside = outside inside line AsyncOutside 
 kind_faults (s.Finish body) line names inside = block_faults body names
 kind_faults (s.Offer value) line names inside = outside inside line OfferOutside ++ expression_faults names line value
 kind_faults (s.Print parts) line names inside = fault_where inside line PrintPlace ++ flat_map (part_faults names line) parts
+kind_faults _ line names inside = unbuilt line
 
 abbrev pub check_kind_step : s.StmtKind-F CheckedKind Checked → CheckedKind
 check_kind_step kind = (binds kind, kind_faults kind)
@@ -89,6 +103,18 @@ faults_from names inside stmts = statements_faults (map statement_checked stmts)
 
 -- ---- programs
 
+abbrev pub is_main : i.the_data → Bool
+is_main (i.Main body) = true
+is_main _ = false
+
+abbrev pub mains : List Item → List Item
+mains items = filter (λ item. is_main item.what) items
+
+-- The first item, if there is one, is a main.
+abbrev pub BeginsWithMain : List Item → Type 0
+BeginsWithMain [] = Unit {0}
+BeginsWithMain (item ∷ items) = is_main item.what ≡ true
+
 -- a second main, and each one after it
 abbrev pub twice_main : List Item → Faults
 twice_main [] = []
@@ -98,12 +124,21 @@ abbrev pub no_main : List Item → ℕ → Faults
 no_main [] last_line = record { line = last_line; kind = NoMain } ∷ []
 no_main (first ∷ others) last_line = []
 
-abbrev pub item_faults : i.the_data → Faults
-item_faults (i.Main body) = faults_from [] false body
+-- the faults of what is declared once: a main too many, or a missing one
+abbrev pub main_faults : Program → Faults
+main_faults program = twice_main (mains program.items) ++ no_main (mains program.items) program.last_line
 
--- the faults of a program: those of its items' names, then a missing main, then those in the items
+-- Of the items main alone is built.
+abbrev pub declared_faults : ℕ → i.the_data → Faults
+declared_faults line (i.Main body) = faults_from [] false body
+declared_faults line _ = unbuilt line
+
+abbrev pub item_faults : Item → Faults
+item_faults item = declared_faults item.line item.what
+
+-- the faults of a program: those of its mains, then those in its items
 abbrev pub faults_of : Program → Faults
-faults_of program = twice_main program.items ++ no_main program.items program.last_line ++ flat_map (λ item. item_faults item.what) program.items
+faults_of program = main_faults program ++ flat_map item_faults program.items
 
 -- ---- what is answered
 

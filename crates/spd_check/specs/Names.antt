@@ -23,5 +23,6 @@ place_of (other ∷ names) name = if bytes_eq other name then 0 else suc (place_
 -- the name that a statement makes visible behind it, with what stands for the blocks in it
 abbrev pub binds : {A B : Type 0} → s.StmtKind-F A B → Names
 binds (s.Let name value) = name ∷ []
+binds (s.LetCall name callee args) = name ∷ []
 binds (s.LetFinish name kind body) = name ∷ []
 binds _ = []

@@ -1,5 +1,7 @@
 -- The code of a program: its tree with each name as a number.
-use Rattle.std.specs.Prelude.{ℕ, suc, ◌+◌, List, [], ◌∷◌, ◌++◌, length, map}
+-- What isn't built yet has some code, which no program without faults shows.
+use Rattle.std.specs.Prelude.{ℕ, suc, ◌+◌, pos, List, [], ◌∷◌, ◌++◌, length, map}
+use Rattle.spd_syntax.specs.declared.tree.BinOp.{BinOp}
 use Rattle.spd_syntax.specs.declared.tree.Expr.{Expr, fold-Expr}
 use Rattle.spd_syntax.specs.declared.tree.Expr.TheOpen.{Expr-F}
 use Rattle.spd_syntax.specs.declared.tree.PrintPart.{PrintPart}
@@ -10,6 +12,8 @@ use Rattle.spd_syntax.specs.declared.tree.Stmt.{Stmt, fold-Stmt}
 use Rattle.spd_syntax.specs.declared.tree.ItemKind.TheVariants as i
 use Rattle.spd_syntax.specs.declared.tree.Item.{Item}
 use Rattle.spd_syntax.specs.declared.tree.Program.{Program}
+use Rattle.spd_check.specs.declared.code.CodeOp.{CodeOp}
+use Rattle.spd_check.specs.declared.code.CodeOp.TheVariants.{Add}
 use Rattle.spd_check.specs.declared.code.CodeExpr.{CodeExpr}
 use Rattle.spd_check.specs.declared.code.CodeExpr.TheVariants as e
 use Rattle.spd_check.specs.declared.code.CodePrintPart.{CodePrintPart}
@@ -22,10 +26,15 @@ use Rattle.spd_check.specs.Names.{Names, place_of, binds}
 
 -- ---- expressions
 
+-- The sum stands for all.
+abbrev pub operator_code : BinOp → CodeOp
+operator_code op = Add
+
 abbrev pub resolve_expression_step : Names → Expr-F CodeExpr → CodeExpr
 resolve_expression_step names (Expr-F.Number n) = e.Number n
 resolve_expression_step names (Expr-F.Var name) = e.Var (place_of names name)
-resolve_expression_step names (Expr-F.Binary op left right) = e.Binary op left right
+resolve_expression_step names (Expr-F.Binary op left right) = e.Binary (operator_code op) left right
+resolve_expression_step names _ = e.Number (pos 0)
 
 abbrev pub expression_code : Names → Expr → CodeExpr
 expression_code names = fold-Expr CodeExpr (resolve_expression_step names)
@@ -68,6 +77,7 @@ kind_code (s.Async body) names next = c.Async (block_code body names next)
 kind_code (s.Finish body) names next = c.Finish (block_code body names next)
 kind_code (s.Offer value) names next = c.Offer (expression_code names value)
 kind_code (s.Print parts) names next = c.Print (map (part_code names) parts)
+kind_code _ names next = c.Print []
 
 abbrev pub resolve_kind_step : s.StmtKind-F (Resolved CodeStmtKind) (Resolved CodeStmt) → Resolved CodeStmtKind
 resolve_kind_step kind = record { binds = binds kind; blocks = kind_blocks kind; code = kind_code kind }
@@ -87,13 +97,15 @@ kind_resolved = fold-StmtKind (Resolved CodeStmtKind) (Resolved CodeStmt) resolv
 
 -- ---- programs
 
--- the statements of main
-abbrev pub body_at : i.the_data → List Stmt
-body_at (i.Main body) = body
+-- the statements of an item that is main, or else these
+abbrev pub body_or : i.the_data → List Stmt → List Stmt
+body_or (i.Main body) others = body
+body_or _ others = others
 
+-- the statements of the first main
 abbrev pub body_of : List Item → List Stmt
 body_of [] = []
-body_of (item ∷ items) = body_at item.what
+body_of (item ∷ items) = body_or item.what (body_of items)
 
 -- the code of statements that stand in a block where these names are visible, which has this number
 unfoldable pub resolved_block : Names → ℕ → List Stmt → CodeBlock

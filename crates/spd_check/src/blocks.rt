@@ -7,7 +7,7 @@ ghost use Rattle.spd_check.specs.Resolved.{kind_resolved, statement_resolved, bl
 
 use crate::checks::{check_let, check_offer, check_print};
 use crate::code::{CodeBlock, CodeStmt, CodeStmtKind};
-use crate::faults::{CheckFault, CheckKind};
+use crate::faults::{CheckFault, CheckKind, unbuilt};
 use crate::names::{bind, to_u32};
 use spd_list::Seq;
 use spd_syntax::{Block, Stmt, StmtKind};
@@ -126,6 +126,12 @@ impl<'a> Checker<'a> {
             }
             StmtKind::Offer { value } => check_offer(self.alloc, &self.names, inside, line, value),
             StmtKind::Print { parts } => check_print(self.alloc, &self.names, inside, line, parts),
+            StmtKind::LetCall { .. }
+            | StmtKind::Assign { .. }
+            | StmtKind::If { .. }
+            | StmtKind::For { .. }
+            | StmtKind::Run { .. }
+            | StmtKind::Return { .. } => Err(unbuilt(line)),
         }
     }
 }

@@ -5,14 +5,14 @@ ghost use Rattle.spd_check.specs.declared.faults.CheckKind.TheVariants.{Unknown,
 ghost use Rattle.spd_check.specs.declared.code.CodeExpr.TheVariants.{Var};
 ghost use Rattle.spd_check.specs.declared.code.CodeStmtKind.TheVariants.{Let, Offer, Print};
 ghost use Rattle.spd_check.specs.Names.{name_texts, is_visible, place_of};
-ghost use Rattle.spd_check.specs.Checks.{Answers, expression_faults, part_faults, twice, outside, fault_where};
-ghost use Rattle.spd_check.specs.Resolved.{expression_code, part_code};
+ghost use Rattle.spd_check.specs.Checks.{Answers, operator_faults, expression_faults, part_faults, twice, outside, fault_where};
+ghost use Rattle.spd_check.specs.Resolved.{operator_code, expression_code, part_code};
 
-use crate::code::{CodeExpr, CodeParts, CodePrintPart, CodeStmtKind};
-use crate::faults::{CheckFault, CheckKind};
+use crate::code::{CodeExpr, CodeOp, CodeParts, CodePrintPart, CodeStmtKind};
+use crate::faults::{CheckFault, CheckKind, unbuilt};
 use crate::names::{bind, find, to_u32};
 use spd_list::Seq;
-use spd_syntax::{Expr, Parts, PrintPart};
+use spd_syntax::{BinOp, Expr, Parts, PrintPart};
 use sqlite_items::Boxed;
 use std::alloc::Global;
 
@@ -31,6 +31,16 @@ fn check_name(names: &[&[u8]], line: u32, name: &[u8]) -> Result<CodeExpr, Check
     Ok(CodeExpr::Var(to_u32(place)?))
 }
 
+/// The code of an operator in a statement at a line.
+fn check_operator(line: u32, op: BinOp) -> Result<CodeOp, CheckFault>
+    ensures { Answers result (operator_faults line op) (operator_code op) }
+{
+    match op {
+        BinOp::Add => Ok(CodeOp::Add),
+        _ => Err(unbuilt(line)),
+    }
+}
+
 /// Checks an expression of a statement at a line, where these names are visible.
 fn check_expr(
     alloc: Global,
@@ -46,9 +56,17 @@ fn check_expr(
         Expr::Var(name) => check_name(names, line, name.as_slice()),
         Expr::Binary(op, left, right) => {
             let left = check_expr(alloc, names, line, left.get())?;
+            let op = check_operator(line, *op)?;
             let right = check_expr(alloc, names, line, right.get())?;
-            Ok(CodeExpr::Binary(*op, Boxed::new(alloc, left)?, Boxed::new(alloc, right)?))
+            Ok(CodeExpr::Binary(op, Boxed::new(alloc, left)?, Boxed::new(alloc, right)?))
         }
+        Expr::Unary(..)
+        | Expr::Len(..)
+        | Expr::Index(..)
+        | Expr::Size(..)
+        | Expr::At(..)
+        | Expr::Same(..)
+        | Expr::Begins(..) => Err(unbuilt(line)),
     }
 }
 

@@ -1,15 +1,21 @@
 // A checked program: the tree with each name as a number.
 
 use spd_list::Seq;
-use spd_syntax::{BinOp, Collect, Lit};
+use spd_syntax::{Collect, Lit};
 use sqlite_items::Boxed;
+
+/// An operator between two operands.
+#[derive(Clone, Copy, Debug, PartialEq, Eq)]
+pub enum CodeOp {
+    Add,
+}
 
 /// An expression. A variable is its place among the values of the names that are visible.
 #[derive(Drop)]
 pub enum CodeExpr {
     Number(i64),
     Var(u32),
-    Binary(BinOp, Boxed<CodeExpr>, Boxed<CodeExpr>),
+    Binary(CodeOp, Boxed<CodeExpr>, Boxed<CodeExpr>),
 }
 
 /// A part of a `print`: a string, or an expression whose value is printed.

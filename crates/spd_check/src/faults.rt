@@ -1,7 +1,7 @@
 // What a check refuses, and where.
 
 ghost use Rattle.std.specs.Prelude.{◌≡◌};
-ghost use Rattle.spd_check.specs.declared.faults.CheckKind.TheVariants.{NoMemory};
+ghost use Rattle.spd_check.specs.declared.faults.CheckKind.TheVariants.{NotBuilt, NoMemory};
 
 use std::alloc::{AllocError, AllocFailed};
 use thiserror::Error;
@@ -21,6 +21,8 @@ pub enum CheckKind {
     PrintPlace,
     /// There is no main.
     NoMain,
+    /// An item, a statement, an operator or another part of an expression that isn't built yet.
+    NotBuilt,
     NoMemory,
 }
 
@@ -31,6 +33,16 @@ pub enum CheckKind {
 pub struct CheckFault {
     pub line: u32,
     pub kind: CheckKind,
+}
+
+/// The fault of a construct at a line that isn't built yet.
+pub(crate) fn unbuilt(line: u32) -> CheckFault
+    ensures { result ≡ record { line = line; kind = NotBuilt } }
+{
+    CheckFault {
+        line,
+        kind: CheckKind::NotBuilt,
+    }
 }
 
 impl From<AllocError> for CheckFault {

@@ -9,7 +9,9 @@ mod find;
 mod names;
 mod program;
 
-pub use code::{CodeBlock, CodeExpr, CodeParts, CodePrintPart, CodeStmt, CodeStmtKind, CodeStmts};
+pub use code::{
+    CodeBlock, CodeExpr, CodeOp, CodeParts, CodePrintPart, CodeStmt, CodeStmtKind, CodeStmts,
+};
 pub use faults::{CheckFault, CheckKind};
 pub use program::{Code, check};
 

@@ -4,8 +4,8 @@ use Rattle.std.specs.Prelude.{map}
 use Rattle.spd_words.specs.Gift.{no_fault, gift}
 use Rattle.spd_words.specs.declared.finish_kind.FinishKind.{FinishKind}
 use Rattle.spd_words.specs.declared.finish_kind.FinishKind.TheVariants as kind
-use Rattle.spd_syntax.specs.declared.tree.BinOp.{BinOp}
-use Rattle.spd_syntax.specs.declared.tree.BinOp.TheVariants.{Add}
+use Rattle.spd_check.specs.declared.code.CodeOp.{CodeOp}
+use Rattle.spd_check.specs.declared.code.CodeOp.TheVariants.{Add}
 use Rattle.spd_check.specs.declared.code.CodeExpr.{CodeExpr}
 use Rattle.spd_check.specs.declared.code.CodeExpr as E
 use Rattle.spd_check.specs.declared.code.CodeExpr.TheOpen as G
@@ -25,7 +25,7 @@ use Rattle.spd_elide.specs.Eval.{Fell, Eval, Run, Act, Value, CallMeaning, quiet
 abbrev HasValue : Result ℤ ℕ → Type 0
 HasValue r = (v : ℤ) × (r ≡ Ok v)
 
-applied : (op : BinOp) (a b : ℤ) → HasValue (apply op a b)
+applied : (op : CodeOp) (a b : ℤ) → HasValue (apply op a b)
 applied Add a b = (_, refl)
 
 with_has : (r : Result ℤ ℕ) (next : ℤ → Result ℤ ℕ) → HasValue r → ((v : ℤ) → HasValue (next v)) → HasValue (with_result r next)

@@ -6,10 +6,10 @@ use Rattle.spd_words.specs.Total.{Total, nothing, settle, at_line}
 use Rattle.spd_words.specs.Meaning.{Promise}
 use Rattle.spd_words.specs.declared.finish_kind.FinishKind.{FinishKind}
 use Rattle.spd_words.specs.declared.finish_kind.FinishKind.TheVariants as kind
-use Rattle.spd_syntax.specs.declared.tree.BinOp.{BinOp}
-use Rattle.spd_syntax.specs.declared.tree.BinOp.TheVariants.{Add}
 use Rattle.spd_syntax.specs.declared.tree.Collect.{Collect}
 use Rattle.spd_syntax.specs.declared.tree.Collect.TheVariants as collect
+use Rattle.spd_check.specs.declared.code.CodeOp.{CodeOp}
+use Rattle.spd_check.specs.declared.code.CodeOp.TheVariants.{Add}
 use Rattle.spd_check.specs.declared.code.CodeExpr.{CodeExpr, fold-CodeExpr}
 use Rattle.spd_check.specs.declared.code.CodeExpr.TheOpen as expr
 use Rattle.spd_check.specs.declared.code.CodePrintPart.{CodePrintPart}
@@ -71,7 +71,7 @@ with_result (Ok v) next = next v
 with_result (Err code) next = Err code
 
 -- 64-bit sums wrap
-abbrev pub apply : BinOp → ℤ → ℤ → Result ℤ ℕ
+abbrev pub apply : CodeOp → ℤ → ℤ → Result ℤ ℕ
 apply Add a b = Ok (int_wrapping_add w64 a b)
 
 -- one level of an expression, from left to right; a place without a value reads 0

@@ -3,8 +3,7 @@
 ghost use Rattle.std.specs.Prelude.{◌≡◌, ℕ, Ok, pos, slice_get, unwrap_or};
 ghost use Rattle.spd_elide.specs.Eval.{value};
 
-use spd_check::CodeExpr;
-use spd_syntax::BinOp;
+use spd_check::{CodeExpr, CodeOp};
 
 /// The value of an expression over the values of the visible names. Sums wrap.
 ///
@@ -16,7 +15,7 @@ pub fn value_of(expr: &CodeExpr, vars: &[i64]) -> i64
     match expr {
         CodeExpr::Number(value) => *value,
         CodeExpr::Var(place) => value_at(vars, *place),
-        CodeExpr::Binary(BinOp::Add, left, right) => {
+        CodeExpr::Binary(CodeOp::Add, left, right) => {
             let left = value_of(left.get(), vars);
             let right = value_of(right.get(), vars);
             left.wrapping_add(right)
