@@ -1,0 +1,1 @@
+-- The program has no lemma: `main` calls what is proved elsewhere.

@@ -1,5 +1,3 @@
-pub mod Reading
-pub mod Operators
 pub mod Built
 pub mod Meaning
 pub mod Running

@@ -1,13 +1,21 @@
 -- What a command line over files defines, and what is answered where files, sinks or memory fail.
 use Rattle.std.specs.Prelude.{◌≡◌, ◌≢◌, ℕ, ◌≤◌, Bool, false, not, ◌&&◌, ◌==◌, if◌then◌else◌, List, [], ◌∷◌, ◌++◌, length, Option, Some, None, codes, ◌⊎◌}
 use Rattle.std.specs.Str.{bytes_eq}
-use Rattle.spd_io.specs.Shelf.{FileTold, Missing, MayBe, MayExceed, ShelfState, FailedAt}
+use Rattle.std.specs.Fmt.{decimal}
+use Rattle.spd_io.specs.Shelf.{FileTold, Untold, Missing, MayBe, MayExceed, ShelfState, FailedAt}
 use Rattle.spd_io.specs.Sink.{SinkState, Gets, GetsFront, Failed, SameFaults}
 use Rattle.spd_syntax.specs.declared.tree.Program.{Program}
+use Rattle.spd_syntax.specs.declared.lexing.LexFault.{LexFault}
+use Rattle.spd_syntax.specs.declared.lexing.LexKind.{LexKind}
+use Rattle.spd_syntax.specs.declared.lexing.LexKind.TheVariants as lex
+use Rattle.spd_syntax.specs.declared.fault.ParseFault.{ParseFault}
+use Rattle.spd_syntax.specs.declared.fault.ParseKind.{ParseKind}
+use Rattle.spd_syntax.specs.declared.fault.ParseKind.TheVariants as parse
 use Rattle.spd_syntax.specs.Limits.{max_text}
 use Rattle.spd_check.specs.declared.code.CodeBlock.{CodeBlock}
+use Rattle.spd_check.specs.Resolved.{main_code}
 use Rattle.spd_top.specs.Meaning.{Writes}
-use Rattle.spd_top.specs.Built.{IsBuilt, HasCode}
+use Rattle.spd_top.specs.Built.{TextOutcome, lex_fault, parse_fault, not_built, runs, ComesTo}
 
 abbrev pub Bytes : Type 0
 Bytes = List ℕ
@@ -44,16 +52,47 @@ write_failed = codes "spd: write failed" ++ end_of_line
 abbrev pub of_file : Bytes → Bytes → Bytes
 of_file name what = codes "spd: " ++ name ++ codes ": " ++ what ++ end_of_line
 
+-- what is told of a line of a file
+abbrev pub of_line : Bytes → ℕ → Bytes → Bytes
+of_line name line what = codes "spd: " ++ name ++ codes ":" ++ decimal line ++ codes ": " ++ what ++ end_of_line
+
+abbrev pub lex_word : LexKind → Bytes
+lex_word lex.BadByte = codes "BadByte"
+lex_word lex.OpenString = codes "OpenString"
+lex_word lex.BadEscape = codes "BadEscape"
+lex_word lex.NoMemory = codes "NoMemory"
+
+abbrev pub parse_word : ParseKind → Bytes
+parse_word parse.Expected = codes "Expected"
+parse_word parse.Literal = codes "Literal"
+parse_word parse.TooDeep = codes "TooDeep"
+parse_word parse.TooMany = codes "TooMany"
+parse_word parse.NoMemory = codes "NoMemory"
+
 -- ---- the outcome: a status, the bytes for `out` and the line for `err`
+
+-- what a text comes to, as the outcome of a program of this name
+pub data TextTold (name : Bytes) : TextOutcome → ℕ → Bytes → Bytes → Type 0 where
+  lex_faulty : (fault : LexFault) → TextTold name (lex_fault fault) 1 [] (of_line name fault.line (lex_word fault.kind))
+  parse_faulty : (fault : ParseFault) → TextTold name (parse_fault fault) 1 [] (of_line name fault.line (parse_word fault.kind))
+  unbuilt_program : TextTold name not_built 1 [] (of_file name (codes "NotBuilt"))
+  done : (program : Program) (bytes : Bytes) → Writes (main_code program) bytes → TextTold name (runs program) 0 bytes []
 
 pub data Outcome (words : List Bytes) (file : Bytes → FileTold) : ℕ → Bytes → Bytes → Type 0 where
   refused : operand_of words ≡ None → Outcome words file 2 [] words_refused
   missing : (name : Bytes) → operand_of words ≡ Some name → file name ≡ Missing → Outcome words file 4 [] (of_file name (codes "read failed"))
   too_long : (name : Bytes) → operand_of words ≡ Some name → MayExceed (file name) max_text → Outcome words file 1 [] (of_file name (codes "TooLong"))
-  not_built : (name text : Bytes) → operand_of words ≡ Some name → MayBe (file name) text → length text ≤ max_text → ((program : Program) → IsBuilt text program → ⊥)
-      → Outcome words file 1 [] (of_file name (codes "NotBuilt"))
-  done : (name text : Bytes) (main : CodeBlock) (bytes : Bytes) → operand_of words ≡ Some name → MayBe (file name) text → length text ≤ max_text → HasCode text main → Writes main bytes
-      → Outcome words file 0 bytes []
+  of_text : (name text : Bytes) (outcome : TextOutcome) (status : ℕ) (bytes line : Bytes) → operand_of words ≡ Some name → MayBe (file name) text → length text ≤ max_text
+      → ComesTo text outcome → TextTold name outcome status bytes line → Outcome words file status bytes line
+
+-- two statuses, with the bytes for `out` and the lines for `err`
+abbrev pub SameAnswer : ℕ → ℕ → Bytes → Bytes → Bytes → Bytes → Type 0
+SameAnswer status status' bytes bytes' line line' = (status ≡ status') × (bytes ≡ bytes') × (line ≡ line')
+
+-- A command line has one outcome, where it is told what file PROGRAM is.
+abbrev pub HasOneOutcome : List Bytes → (Bytes → FileTold) → Type 0
+HasOneOutcome words file = ((name : Bytes) → operand_of words ≡ Some name → file name ≢ Untold) → (status status' : ℕ) (bytes bytes' line line' : Bytes)
+    → Outcome words file status bytes line → Outcome words file status' bytes' line' → SameAnswer status status' bytes bytes' line line'
 
 -- ---- the answer
 

@@ -3,19 +3,22 @@
 ghost use Rattle.std.specs.Prelude.{◌≡◌, ◌≢◌, ◌<◌, ◌⊎◌, ℕ, List, [], Some};
 ghost use Rattle.spd_io.specs.Shelf.{FailedAt, ChangesNoOther};
 ghost use Rattle.spd_io.specs.Sink.{Failed, SameFaults};
-ghost use Rattle.spd_top.specs.Serving.{operand_of, words_refused, Says, Answer, Runs};
+ghost use Rattle.spd_top.specs.Serving.{operand_of, words_refused, Says, Answer, Runs, HasOneOutcome};
 
-use crate::building::build;
-use crate::limits::MAX_TEXT;
-use crate::reading::ReadError;
+use crate::building::{BuildError, build};
 use crate::running::{RunError, run};
 use crate::status;
-use crate::telling::{fail_read, out_of_memory, refuse_program, refuse_words, tell};
+use crate::telling::{
+    fail_read, lex_word, out_of_memory, parse_word, refuse_line, refuse_program, refuse_words, tell,
+};
 use crate::words::Words;
 use spd_check::Code;
 use spd_io::{Shelf, ShelfFault, Sink};
 use spd_task::PlainRegions;
 use std::alloc::Global;
+
+/// The greatest number of bytes of a program's text.
+const MAX_TEXT: usize = 1_048_576;
 
 /// Runs a program, and answers the status.
 fn run_program<O: Sink, E: Sink>(alloc: Global, code: &Code, out: &mut O, err: &mut E) -> u8
@@ -36,6 +39,7 @@ fn run_program<O: Sink, E: Sink>(alloc: Global, code: &Code, out: &mut O, err: &
 /// for errors, and answers the status that the command ends with.
 ///
 /// It does `elide PROGRAM`; every other list of words is refused. It always returns.
+#[tactic(auto, using(crate::proofs::OneOutcome::has_one_outcome))]
 pub fn serve_still<F: Shelf, O: Sink, E: Sink>(
     alloc: Global,
     words: &Words,
@@ -60,6 +64,8 @@ pub fn serve_still<F: Shelf, O: Sink, E: Sink>(
     // Where `out` failed the status is 5, and where `err` failed it is 4, 5 or 7.
     ensures out_kept { result ≢ 5 → SameFaults (O.state out.old) (O.state out.new) }
     ensures err_kept { result < 4 → SameFaults (E.state err.old) (E.state err.new) }
+    // Over a file that is told, the outcome is one.
+    ensures one { HasOneOutcome words.now (F.state shelf.old).file }
 {
     let Some(name) = words.operand() else {
         return refuse_words(err);
@@ -72,7 +78,13 @@ pub fn serve_still<F: Shelf, O: Sink, E: Sink>(
     };
     match build(alloc, &text) {
         Ok(code) => run_program(alloc, &code, out, err),
-        Err(ReadError::NotBuilt) => refuse_program(alloc, err, name, "NotBuilt"),
-        Err(ReadError::NoMemory) => out_of_memory(err),
+        Err(BuildError::Lex(fault)) => {
+            refuse_line(alloc, err, name, fault.line, lex_word(fault.kind))
+        }
+        Err(BuildError::Parse(fault)) => {
+            refuse_line(alloc, err, name, fault.line, parse_word(fault.kind))
+        }
+        Err(BuildError::NotBuilt) => refuse_program(alloc, err, name, "NotBuilt"),
+        Err(BuildError::NoMemory) => out_of_memory(err),
     }
 }

@@ -1,10 +1,11 @@
 // The lines for standard error, with the status that each tells.
 
 ghost use Rattle.std.specs.Prelude.{◌≡◌, ◌⊎◌, codes, string_bytes, IfOk};
-ghost use Rattle.spd_top.specs.Serving.{words_refused, out_of_memory, of_file, GetsOrFails, Says, WantsMemory};
+ghost use Rattle.spd_top.specs.Serving.{words_refused, out_of_memory, of_file, of_line, lex_word, parse_word, GetsOrFails, Says, WantsMemory};
 
 use crate::status;
 use spd_io::{Sink, write_all_of};
+use spd_syntax::{LexKind, ParseKind};
 use std::alloc::{AllocError, Global};
 
 /// Puts a line. Where `err` fails, it has got the first of its bytes.
@@ -49,6 +50,62 @@ fn file_line(alloc: Global, name: &str, what: &str) -> Result<String, AllocError
     line.push_str(what)?;
     line.push_str("\n")?;
     Ok(line)
+}
+
+/// The line that tells something of a line of a file.
+fn line_line(alloc: Global, name: &str, line: u32, what: &str) -> Result<String, AllocError>
+    ensures { IfOk result (λ told. string_bytes told ≡ of_line name.now line what.now) }
+{
+    let mut told = String::from_str(alloc, "spd: ")?;
+    told.push_str(name)?;
+    told.push_str(":")?;
+    told.push_str(line.to_string(alloc)?.as_str())?;
+    told.push_str(": ")?;
+    told.push_str(what)?;
+    told.push_str("\n")?;
+    Ok(told)
+}
+
+/// The word that tells what is wrong with a text that can't be cut into tokens.
+pub(crate) fn lex_word(kind: LexKind) -> &'static str
+    ensures { result.now ≡ lex_word kind }
+{
+    match kind {
+        LexKind::BadByte => "BadByte",
+        LexKind::OpenString => "OpenString",
+        LexKind::BadEscape => "BadEscape",
+        LexKind::NoMemory => "NoMemory",
+    }
+}
+
+/// The word that tells what is wrong with tokens that spell no program within the limits.
+pub(crate) fn parse_word(kind: ParseKind) -> &'static str
+    ensures { result.now ≡ parse_word kind }
+{
+    match kind {
+        ParseKind::Expected => "Expected",
+        ParseKind::Literal => "Literal",
+        ParseKind::TooDeep => "TooDeep",
+        ParseKind::TooMany => "TooMany",
+        ParseKind::NoMemory => "NoMemory",
+    }
+}
+
+/// Tells that a program is refused for what stands on a line, and answers 1; or 5 where `err` fails.
+pub(crate) fn refuse_line<E: Sink>(
+    alloc: Global,
+    err: &mut E,
+    name: &str,
+    line: u32,
+    kind: &str,
+) -> u8
+    ensures { Says 1 (E.state err.old) (E.state err.new) (of_line name.now line kind.now) result ⊎
+        WantsMemory (E.state err.old) (E.state err.new) result }
+{
+    match line_line(alloc, name, line, kind) {
+        Ok(told) => say(err, told.as_bytes(), status::PROGRAM_REFUSED),
+        Err(_) => out_of_memory(err),
+    }
 }
 
 /// Tells that a program is refused, and answers 1; or 5 where `err` fails.

@@ -1,9 +1,0 @@
-use Rattle.std.proofs.Common.{◌≡◌, ◌++◌, length}
-use Rattle.spd_syntax.specs.Grammar.{unquoted_from, unquoted}
-use Rattle.spd_top.proofs.printing.unquoted.Given as goal
-
-abbrev pub invariant-loop-rest : goal.invariant-loop-rest
-invariant-loop-rest l = l.found ++ unquoted_from l.escaped l.rest ≡ unquoted l.text
-
-abbrev pub decreases-loop-rest : goal.decreases-loop-rest
-decreases-loop-rest l = length l.rest
