@@ -3,7 +3,9 @@
 
 Run at the top of the repository. Each examples/NAME.sp has examples/NAME.sp.stdout, the bytes that
 `spd elide` must write for it. Where docs/language.md names an example before a block, that block is
-the program's text, and a block after the line `writes` is what it writes.
+the program's text, and a block after the line `writes` is what it writes. Each examples/faults/NAME.sp
+has NAME.sp.stderr, the line that refuses it, and stands in docs/language.md with a block after the line
+`is refused with`; tools/check_streams.py runs these.
 """
 
 import pathlib
@@ -12,20 +14,28 @@ import subprocess
 import sys
 
 EXAMPLES = pathlib.Path("examples")
-BLOCK = re.compile(r"`examples/(\S+\.sp)`\n\n```\n(.*?)```\n\nwrites\n\n```\n(.*?)```\n", re.S)
+FAULTS = EXAMPLES / "faults"
+BLOCK = r"`{}/(\w+\.sp)`\n\n```\n(.*?)```\n\n{}\n\n```\n(.*?)```\n"
+WRITES = re.compile(BLOCK.format(EXAMPLES, "writes"), re.S)
+REFUSED = re.compile(BLOCK.format(FAULTS, "is refused with"), re.S)
 
 
 def shown_as_they_are():
     """The faults of the documents' examples, and how many there are."""
     faults, shown = [], 0
-    for name, text, written in BLOCK.findall(pathlib.Path("docs/language.md").read_text()):
-        shown += 1
-        if text != (EXAMPLES / name).read_text():
-            faults.append(f"docs/language.md: {name} isn't the program of examples/")
-        if written != (EXAMPLES / f"{name}.stdout").read_text():
-            faults.append(f"docs/language.md: what {name} writes isn't that of examples/")
-    if shown == 0:
-        faults.append("docs/language.md: no example was found")
+    page = pathlib.Path("docs/language.md").read_text()
+    for shape, folder, answer in ((WRITES, EXAMPLES, "stdout"), (REFUSED, FAULTS, "stderr")):
+        found = shape.findall(page)
+        shown += len(found)
+        for name, text, written in found:
+            if text != (folder / name).read_text():
+                faults.append(f"docs/language.md: {name} isn't the program of {folder}/")
+            if written != (folder / f"{name}.{answer}").read_text():
+                faults.append(f"docs/language.md: what comes of {name} isn't that of {folder}/")
+        if not found:
+            faults.append(f"docs/language.md: no example of {folder}/ was found")
+    not_shown = {it.name for it in FAULTS.glob("*.sp")} - {name for name, _, _ in REFUSED.findall(page)}
+    faults += [f"docs/language.md: {name} of {FAULTS}/ isn't shown" for name in sorted(not_shown)]
     return faults, shown
 
 

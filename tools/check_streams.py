@@ -35,7 +35,13 @@ FILES = {
     b"most.sp": b"main { print 8; }".ljust(MOST),
     b"more.sp": b"main { print 8; }".ljust(MOST + 1),
     "\u00e9.sp".encode(): b"main { print 5; }\n",
+    b"bytes.sp": b"main {\n print \"\xff\";\n}\n",
+    b"folder.sp/a:b.sp": b"main { }\n}\n",
 }
+
+# Programs that are refused, each with the line that tells why beside it.
+FAULTS = sorted(pathlib.Path("examples/faults").glob("*.sp"))
+FILES |= {os.fsencode(it.name): it.read_bytes() for it in FAULTS}
 
 # What a stream is: a pipe that is read whole, closed, a device that is full, a pipe that nobody
 # reads, a pipe that is read in small parts while the program is stopped and goes on, a file, or a
@@ -87,6 +93,8 @@ ROWS = [
     Row("that name without its blank", [b"elide", b"blank.sp"], 4, err=b"spd: blank.sp: read failed\n"),
     Row("a blank before a name", [b"elide", b" a.sp"], 4, err=b"spd:  a.sp: read failed\n"),
     Row("an empty file", [b"elide", b"empty.sp"], 1, err=b"spd: empty.sp: NotBuilt\n"),
+    Row("a file that isn't ASCII", [b"elide", b"bytes.sp"], 1, err=b"spd: bytes.sp:2: BadByte\n"),
+    Row("a fault in a folder's file", [b"elide", b"folder.sp/a:b.sp"], 1, err=b"spd: folder.sp/a:b.sp:2: Expected\n"),
     Row("a file of the greatest size", [b"elide", b"most.sp"], 0, b"8\n"),
     Row("a file of a byte more", [b"elide", b"more.sp"], 1, err=b"spd: more.sp: TooLong\n"),
     Row("a missing file", [b"elide", b"missing.sp"], 4, err=b"spd: missing.sp: read failed\n"),
@@ -117,11 +125,14 @@ ROWS = [
     Row("a full error stream", [], 5, err_is=FULL),
     Row("an error stream that nobody reads", [], 5, err_is=GONE),
     Row("a full error stream at a refused program", [b"elide", b"empty.sp"], 5, err_is=FULL),
+    Row("a full error stream at a fault's line", [b"elide", b"bytes.sp"], 5, err_is=FULL),
+    Row("a limit in a fault's line", [b"elide", b"bytes.sp"], 5, err=b"spd: bytes.sp:2", err_is=FILE, most_bytes=15),
     Row("a full error stream at a missing file", [b"elide", b"missing.sp"], 4, err_is=FULL),
     Row("a full error stream that gets nothing", [b"elide", b"a.sp"], 0, b"n=3\n", err_is=FULL),
     Row("two full streams", [b"elide", b"a.sp"], 5, out_is=FULL, err_is=FULL),
     Row("two closed streams", [b"elide", b"a.sp"], 5, out_is=CLOSED, err_is=CLOSED),
 ]
+ROWS += [Row(str(it), [b"elide", os.fsencode(it.name)], 1, err=it.with_name(f"{it.name}.stderr").read_bytes()) for it in FAULTS]
 
 
 def opened(is_what, at):
@@ -235,6 +246,8 @@ def main():
     faults = [f"{it}: a source is newer: run `rt ci` or `rt run`" for it in programs if is_stale(it)]
     if not programs:
         faults.append(f"{PROGRAMS[0]}: not built: run `rt ci`, or `rt run` in crates/spd")
+    if not FAULTS:
+        faults.append("examples/faults: no program was found")
     if {row.status for row in ROWS} != {0, 1, 2, 4, 5, 7}:
         faults.append("the rows don't have each of the statuses 0, 1, 2, 4, 5 and 7")
     if not faults:
@@ -242,7 +255,9 @@ def main():
             folder = pathlib.Path(folder)
             (folder / "folder").mkdir()
             for name, text in FILES.items():
-                (folder / os.fsdecode(name)).write_bytes(text)
+                at = folder / os.fsdecode(name)
+                at.parent.mkdir(exist_ok=True)
+                at.write_bytes(text)
             for program in programs:
                 faults += faults_of(program, folder)
     for fault in faults:

@@ -7,12 +7,14 @@ use std::alloc::{AllocError, Global};
 use std::process::Abort;
 use std::test::Fail;
 
-const WORDS_REFUSED: Answer = (b"", b"spd: words refused\n", 2);
+const WORDS_REFUSED: Answer<'static> = (b"", b"spd: words refused\n", 2);
+
+const SEMICOLON: Answer<'static> = (b"", b"spd: semicolon.sp:2: Expected\n", 1);
 
 /// Words, the calls that are to fail, and what is answered.
-type CommandRow = (&'static [&'static str], Failing, Answer);
+type CommandRow = (&'static [&'static str], Failing, Answer<'static>);
 
-static COMMANDS: [CommandRow; 44] = [
+static COMMANDS: [CommandRow; 50] = [
     // Reads.
     (&["elide", "help"], (0, 0, 0), (b"7\n", b"", 0)),
     (&["elide", "help"], (2, 0, 0), (b"7\n", b"", 0)),
@@ -65,6 +67,17 @@ static COMMANDS: [CommandRow; 44] = [
     (&["elide", "a.sp"], (0, 1, 0), NOT_BUILT),
     (&["elide", "a.sp"], (0, 0, 1), (b"", b"", 5)),
     (&["elide", "a.sp"], (0, 0, 2), NOT_BUILT),
+    // A fault of a text with its line, and one of its tokens.
+    (&["elide", "semicolon.sp"], (0, 0, 0), SEMICOLON),
+    (&["elide", "semicolon.sp"], (0, 1, 0), SEMICOLON),
+    (&["elide", "semicolon.sp"], (0, 0, 1), (b"", b"", 5)),
+    (&["elide", "semicolon.sp"], (0, 0, 2), SEMICOLON),
+    (
+        &["elide", "byte.sp"],
+        (0, 0, 0),
+        (b"", b"spd: byte.sp:3: BadByte\n", 1),
+    ),
+    (&["elide", "byte.sp"], (0, 0, 1), (b"", b"", 5)),
     // A print is one call of out. The first that fails is the last.
     (&["elide", "two.sp"], (0, 0, 0), (b"1\n2\n", b"", 0)),
     (
@@ -138,6 +151,8 @@ fn expect_command(
     shelf.add(alloc, "most.sp", most)?;
     shelf.add(alloc, "more.sp", more)?;
     shelf.add(alloc, "a.sp", b"main { print y; }")?;
+    shelf.add(alloc, "semicolon.sp", b"main { print 1;\n; }")?;
+    shelf.add(alloc, "byte.sp", b"main {\n\n@ }")?;
     shelf.add(alloc, "two.sp", b"main { print 1; print 2; }")?;
     shelf.add(alloc, "long.sp", LONG)?;
     shelf.add(alloc, "-x", b"main { }")?;

@@ -16,6 +16,8 @@ mod finish_rows;
 #[cfg(test)]
 mod jobs;
 #[cfg(test)]
+mod limits;
+#[cfg(test)]
 mod programs;
 #[cfg(test)]
 mod refused;

@@ -6,9 +6,9 @@ use std::alloc::{AllocError, Global};
 use std::process::Abort;
 
 /// The bytes that out and err get, and the status.
-pub(crate) type Answer = (&'static [u8], &'static [u8], u8);
+pub(crate) type Answer<'a> = (&'a [u8], &'a [u8], u8);
 
-pub(crate) const NOT_BUILT: Answer = (b"", b"spd: a.sp: NotBuilt\n", 1);
+pub(crate) const NOT_BUILT: Answer<'static> = (b"", b"spd: a.sp: NotBuilt\n", 1);
 
 /// The calls that are to fail: of the shelf, of out and of err. 0 is none.
 pub(crate) type Failing = (u32, u32, u32);
@@ -45,7 +45,7 @@ pub(crate) fn expect(
     words: &[&str],
     shelf: &mut MemShelf,
     (read, out_call, err_call): Failing,
-    (out_gets, err_gets, status): Answer,
+    (out_gets, err_gets, status): Answer<'_>,
     row: &str,
 ) -> Result<(), AllocError> {
     let words = words_of(rt.alloc(), words)?;
@@ -63,7 +63,7 @@ pub(crate) fn expect(
 pub(crate) fn expect_of(
     rt: &(impl Abort + AllocGlobal),
     text: &[u8],
-    answer: Answer,
+    answer: Answer<'_>,
 ) -> Result<(), AllocError> {
     let mut shelf = MemShelf::new(rt.alloc());
     shelf.add(rt.alloc(), "a.sp", text)?;
@@ -71,11 +71,21 @@ pub(crate) fn expect_of(
     expect(rt, &["elide", "a.sp"], &mut shelf, (0, 0, 0), answer, &row)
 }
 
+/// Asserts the fault of a program's text: its line and its kind, as they are told.
+pub(crate) fn expect_fault(
+    rt: &(impl Abort + AllocGlobal),
+    text: &[u8],
+    fault: &str,
+) -> Result<(), AllocError> {
+    let told = format!(in rt.alloc(); "spd: a.sp:{fault}\n")?;
+    expect_of(rt, text, (b"", told.as_bytes(), 1))
+}
+
 /// Asserts what a program prints.
 pub(crate) fn expect_prints(
     rt: &(impl Abort + AllocGlobal),
     text: &[u8],
-    prints: &'static [u8],
+    prints: &[u8],
 ) -> Result<(), AllocError> {
     expect_of(rt, text, (prints, b"", 0))
 }

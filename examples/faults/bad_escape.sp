@@ -1,0 +1,4 @@
+main {
+  print "tea",
+        "\n";
+}

@@ -1,0 +1,4 @@
+main {
+  print 1 +;
+  print "a\b";
+}

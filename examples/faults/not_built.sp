@@ -1,0 +1,4 @@
+main {
+  let n = 3;
+  if n { print "some"; }
+}

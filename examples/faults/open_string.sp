@@ -1,0 +1,4 @@
+main {
+  print "one line,
+         and the next";
+}
