@@ -20,25 +20,33 @@ def text_file(name, text):
     return name
 
 
-def seconds(command, runs):
-    """The median wall time of a command, in seconds."""
+def ended(done, status):
+    """A run, once it is sure that it ended with this status."""
+    if done.returncode != status:
+        raise SystemExit(f"{done.args}: status {done.returncode}, expected {status}")
+    return done
+
+
+def seconds(command, runs, status=0):
+    """The median wall time of a command that ends with this status, in seconds."""
     times = []
     for _ in range(runs):
         start = time.perf_counter()
-        subprocess.run(command, stdout=subprocess.DEVNULL, check=True)
+        done = subprocess.run(command, stdout=subprocess.DEVNULL, stderr=subprocess.DEVNULL, check=False)
         times.append(time.perf_counter() - start)
+        ended(done, status)
     return statistics.median(times)
 
 
-def peak_kib(command):
-    """The peak resident memory of a command, in KiB, by Debian's package `time`."""
+def peak_kib(command, status=0):
+    """The peak resident memory of a command that ends with this status, in KiB, by Debian's package `time`."""
     timed = ["/usr/bin/time", "-f", "%M", *command]
-    done = subprocess.run(timed, stdout=subprocess.DEVNULL, stderr=subprocess.PIPE, text=True, check=True)
-    return int(done.stderr.split()[-1])
+    done = subprocess.run(timed, stdout=subprocess.DEVNULL, stderr=subprocess.PIPE, text=True, check=False)
+    return int(ended(done, status).stderr.split()[-1])
 
 
-def smallest_stack_kib(command):
-    """The smallest limit on the stack, in steps of 4 KiB, under which a command ends with status 0."""
+def smallest_stack_kib(command, status=0):
+    """The smallest limit on the stack, in steps of 4 KiB, under which a command ends with this status."""
 
     def runs(kib):
         def limit():
@@ -47,7 +55,7 @@ def smallest_stack_kib(command):
         done = subprocess.run(
             command, stdout=subprocess.DEVNULL, stderr=subprocess.DEVNULL, preexec_fn=limit
         )
-        return done.returncode == 0
+        return done.returncode == status
 
     low, high = 0, 8192
     if not runs(high):
