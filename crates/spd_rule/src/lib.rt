@@ -15,6 +15,7 @@ mod field;
 mod looks;
 mod moves;
 mod opening;
+mod reading;
 mod rule;
 mod seats;
 mod steps;
