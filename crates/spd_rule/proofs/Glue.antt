@@ -16,6 +16,7 @@ use Rattle.spd_state.specs.Shown.{ShownOk, AllShown}
 use Rattle.spd_state.proofs.Showing.{shown_kept}
 use Rattle.spd_state.proofs.Writes.{write_moves, write_node, write_pair, write_vertex}
 use Rattle.spd_rule.specs.Held.{Held, StepUnderRule}
+use Rattle.spd_rule.proofs.Conserved.{lay_there}
 
 -- what a step tells, it tells of a step under the rule
 module _ {B : Type 0} (p key picked : PlanView) (keyed : key ≡ p) (is : picked ≡ p) (slots id : ℕ) (me : Me (Option B) View) (place : ℕ) where
@@ -38,6 +39,7 @@ module _ {B : Type 0} (p key picked : PlanView) (keyed : key ≡ p) (is : picked
         was = refl;
         words = refl;
         views = refl;
+        bodies = lay_there r.1 s.homes me.1 r.2;
       },
     ),
   )

@@ -2,6 +2,7 @@
 -- Glue: from typed words to words, once for each kind of word; `under_rule` shows the states of a step.
 -- Claims, Roots, ..: what the table allows, from the lemma of spd_state that the step keeps the rule.
 -- Mirrors: the numbers beside a seat after a step.
+pub mod Conserved
 pub mod Glue
 pub mod Claims
 pub mod Begins

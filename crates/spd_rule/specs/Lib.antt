@@ -1,3 +1,4 @@
+pub mod Lying
 pub mod Held
 pub mod Nobody
 pub mod Idle

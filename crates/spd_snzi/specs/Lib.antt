@@ -1,0 +1,4 @@
+pub mod Paths
+pub mod Arrivals
+pub mod Told
+pub mod Departures
