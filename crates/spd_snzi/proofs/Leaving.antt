@@ -14,9 +14,10 @@ use Rattle.spd_rule.proofs.Settled.{lowered, told_rest}
 use Rattle.spd_rule.specs.Shares.{SubsUnderRule, root_place, field_plan, share_view, share_known}
 use Rattle.spd_rule.specs.declared.field.Field.{Field}
 use Rattle.spd_rule.specs.declared.field.Share.{Share}
+use Rattle.spd_words.specs.Plan.{PlanView}
 use Rattle.spd_words.specs.Words.{node_of}
 use Rattle.spd_snzi.specs.Told.{told_by, KnowsTold}
-use Rattle.spd_snzi.specs.Departures.{DepartGoes, DepartTurned}
+use Rattle.spd_snzi.specs.Departures.{MayDepart, DepartGoes, DepartTurned}
 use Rattle.spd_snzi.specs.declared.depart.DepartCall.{DepartCall}
 use Rattle.spd_snzi.specs.declared.depart.DepartStage.{DepartStage}
 use Rattle.spd_snzi.specs.declared.depart.DepartStage.TheVariants as stage
@@ -52,17 +53,22 @@ sub_counted d n me = let w : View = sub_after d n me.0 in steps_rested (w, me.1)
     ∙ steps_lowered (ltb 0 (count d me.0.held)) d n me.0
 
 -- the turn at a root
-pub departs : {B : Type 0} (field : Field B) (before : View) (unit : ℕ) (st : DepartStage) (s t : Share B) (found : ℕ) (told : Option ℕ)
-    → DepartGoes (field_plan field) before record { unit = unit; stage = st } (share_view s) → SubsUnderRule field (root_place field unit) 2 found s t
-    → share_known t ≡ sub_known unit (node_of found) (share_known s) → told ≡ told_by unit (node_of found)
-    → DepartTurned field before record { unit = unit; stage = st } record { unit = unit; stage = st } s t (turn.Done told)
-departs {B} field before unit stage.SubRoot s t found told goes rule known is = record {
+pub departs : {B : Type 0} (field : Field B) (unit : ℕ) (before : View) (at : ℕ) (st : DepartStage) (s t : Share B) (found : ℕ) (told : Option ℕ)
+    → DepartGoes (field_plan field) unit before record { unit = at; stage = st } (share_view s) → SubsUnderRule field (root_place field at) 2 found s t
+    → share_known t ≡ sub_known at (node_of found) (share_known s) → told ≡ told_by at (node_of found)
+    → DepartTurned field unit before record { unit = at; stage = st } record { unit = at; stage = st } s t (turn.Done told)
+departs {B} field unit before at stage.SubRoot s t found told goes rule known is = record {
   found = found;
   step = rule;
-  counted = ap (λ (m : Me (Option B) View). m.0.steps) known ∙ sub_counted unit (node_of found) (share_known s);
+  counted = ap (λ (m : Me (Option B) View). m.0.steps) known ∙ sub_counted at (node_of found) (share_known s);
   table = ap turn.Done is;
   comes = (
-    known ∙ ap (λ (v : View). sub_known unit (node_of found) (v, (share_known s).1)) goes.is,
-    subst (λ (X : Type 0). X) (λ j. KnowsTold (sym is j) (sym known j).0) (knows_told unit (node_of found) (share_known s)),
+    known ∙ (λ j. sub_known (goes.asks j) (node_of found) (goes.is j, (share_known s).1)),
+    subst (λ (X : Type 0). X) (λ j. KnowsTold (sym is j) (sym known j).0) (knows_told at (node_of found) (share_known s)),
   );
 }
+
+-- what may depart at its beginning may at its one turn
+pub may_depart : (p : PlanView) (unit : ℕ) (before : View) (at : ℕ) (st : DepartStage) (v : View)
+    → DepartGoes p unit before record { unit = at; stage = st } v → MayDepart p at v
+may_depart p unit before at stage.SubRoot v goes = subst (λ (X : Type 0). X) (λ j. MayDepart p (sym goes.asks j) (sym goes.is j)) goes.may

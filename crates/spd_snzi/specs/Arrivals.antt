@@ -39,9 +39,10 @@ arrive_writes stage.AddRoot found = (found + 2) % 2 ^ 64
 abbrev pub arrive_view : ArriveStage → View → View
 arrive_view stage.AddRoot before = before
 
--- The call began with this view, and its turns alone have changed what the share knows.
-pub record ArriveGoes (p : PlanView) (before : View) (call : ArriveCall) (v : View) : Type 0 where
-  pub may : MayArrive p call.node before
+-- The call began at this node with this view, and its turns alone have changed what the share knows.
+pub record ArriveGoes (p : PlanView) (node : ℕ) (before : View) (call : ArriveCall) (v : View) : Type 0 where
+  pub asks : call.node ≡ node
+  pub may : MayArrive p node before
   pub is : v ≡ arrive_view call.stage before
 
 -- by the table of turns
@@ -50,30 +51,30 @@ ArriveAnswers (arrive_goes s) new result = (new ≡ s) × (result ≡ turn.More)
 ArriveAnswers (arrive_ends unit) new result = result ≡ turn.Done unit
 
 -- `More` goes on. At `Done` the share holds one unit more than where the call began, at the node asked for.
-abbrev pub ArriveComes : PlanView → View → ArriveCall → ArriveCall → View → ArriveTurn → Type 0
-ArriveComes p before old new v turn.More = ArriveGoes p before new v
-ArriveComes p before old new v (turn.Done unit) = (unit ≡ old.node) × (v ≡ add_view old.node before)
+abbrev pub ArriveComes : PlanView → ℕ → View → ArriveCall → View → ArriveTurn → Type 0
+ArriveComes p node before new v turn.More = ArriveGoes p node before new v
+ArriveComes p node before new v (turn.Done unit) = (unit ≡ node) × (v ≡ add_view node before)
 
--- A turn of a call that began with this view took one step, the one of its stage, under the rule, and answered by the
+-- A turn of a call that began so took one step, the one of its stage, under the rule, and answered by the
 -- table.
-pub record ArriveTurned {B : Type 0} (field : Field B) (before : View) (old new : ArriveCall) (s t : Share B)
+pub record ArriveTurned {B : Type 0} (field : Field B) (node : ℕ) (before : View) (old new : ArriveCall) (s t : Share B)
     (result : ArriveTurn) : Type 0 where
   pub found : ℕ
   pub step : StepUnderRule (field_plan field) (arrive_place (field_plan field) old.node old.stage) found
       (arrive_writes old.stage found) (share_known s) (share_known t)
   pub counted : (share_view t).steps ≡ (share_view s).steps + 1
   pub table : ArriveAnswers (arrive_next old.node old.stage found) new.stage result
-  pub comes : ArriveComes (field_plan field) before old new (share_view t) result
+  pub comes : ArriveComes (field_plan field) node before new (share_view t) result
 
 -- the same of every beginning from which the call came here
 abbrev pub ArrivePlays : {B : Type 0} → Field B → ArriveCall → ArriveCall → Share B → Share B → ArriveTurn → Type 0
-ArrivePlays {B} field old new s t result = (before : View) → ArriveGoes (field_plan field) before old (share_view s)
-    → ArriveTurned field before old new s t result
+ArrivePlays {B} field old new s t result = (node : ℕ) (before : View) → ArriveGoes (field_plan field) node before old (share_view s)
+    → ArriveTurned field node before old new s t result
 
 -- The call may go on, from some beginning.
 abbrev pub ArriveMayGo : {B : Type 0} → Field B → ArriveCall → Share B → Type 0
-ArriveMayGo field call share = (before : View) × ArriveGoes (field_plan field) before call (share_view share)
+ArriveMayGo field call share = (node : ℕ) × (before : View) × ArriveGoes (field_plan field) node before call (share_view share)
 
 -- A new call may begin wherever a share may arrive at this node.
 abbrev pub ArriveBegins : ℕ → ArriveCall → Type 0
-ArriveBegins node call = (p : PlanView) (v : View) → MayArrive p node v → ArriveGoes p v call v
+ArriveBegins node call = (p : PlanView) (v : View) → MayArrive p node v → ArriveGoes p node v call v

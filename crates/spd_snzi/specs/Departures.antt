@@ -42,9 +42,10 @@ depart_writes stage.SubRoot found = (found + (2 ^ 64 - 2)) % 2 ^ 64
 abbrev pub depart_view : DepartStage → View → View
 depart_view stage.SubRoot before = before
 
--- The call began with this view, and its turns alone have changed what the share knows.
-pub record DepartGoes (p : PlanView) (before : View) (call : DepartCall) (v : View) : Type 0 where
-  pub may : MayDepart p call.unit before
+-- The call began with a unit at this node and with this view, and its turns alone have changed what the share knows.
+pub record DepartGoes (p : PlanView) (unit : ℕ) (before : View) (call : DepartCall) (v : View) : Type 0 where
+  pub asks : call.unit ≡ unit
+  pub may : MayDepart p unit before
   pub is : v ≡ depart_view call.stage before
 
 -- by the table of turns
@@ -53,32 +54,32 @@ DepartAnswers (depart_goes s) new result = (new ≡ s) × (result ≡ turn.More)
 DepartAnswers (depart_ends told) new result = result ≡ turn.Done told
 
 -- `More` goes on. At `Done` one unit at the node has left, by a step that found this word; what is told is known.
-abbrev pub DepartComes : {B : Type 0} → PlanView → View → ℕ → DepartCall → DepartCall → Me (Option B) View
-    → Me (Option B) View → DepartTurn → Type 0
-DepartComes p before found old new me me' turn.More = DepartGoes p before new me'.0
-DepartComes p before found old new me me' (turn.Done told) = (me' ≡ sub_known old.unit (node_of found) (before, me.1))
+abbrev pub DepartComes : {B : Type 0} → PlanView → ℕ → View → ℕ → DepartCall → Me (Option B) View → Me (Option B) View
+    → DepartTurn → Type 0
+DepartComes p unit before found new me me' turn.More = DepartGoes p unit before new me'.0
+DepartComes p unit before found new me me' (turn.Done told) = (me' ≡ sub_known unit (node_of found) (before, me.1))
     × KnowsTold told me'.0
 
--- A turn of a call that began with this view took one step, the one of its stage, under the rule, and answered by the
+-- A turn of a call that began so took one step, the one of its stage, under the rule, and answered by the
 -- table.
-pub record DepartTurned {B : Type 0} (field : Field B) (before : View) (old new : DepartCall) (s t : Share B)
+pub record DepartTurned {B : Type 0} (field : Field B) (unit : ℕ) (before : View) (old new : DepartCall) (s t : Share B)
     (result : DepartTurn) : Type 0 where
   pub found : ℕ
   pub step : StepUnderRule (field_plan field) (depart_place (field_plan field) old.unit old.stage) found
       (depart_writes old.stage found) (share_known s) (share_known t)
   pub counted : (share_view t).steps ≡ (share_view s).steps + 1
   pub table : DepartAnswers (depart_next old.unit old.stage found) new.stage result
-  pub comes : DepartComes (field_plan field) before found old new (share_known s) (share_known t) result
+  pub comes : DepartComes (field_plan field) unit before found new (share_known s) (share_known t) result
 
 -- the same of every beginning from which the call came here
 abbrev pub DepartPlays : {B : Type 0} → Field B → DepartCall → DepartCall → Share B → Share B → DepartTurn → Type 0
-DepartPlays {B} field old new s t result = (before : View) → DepartGoes (field_plan field) before old (share_view s)
-    → DepartTurned field before old new s t result
+DepartPlays {B} field old new s t result = (unit : ℕ) (before : View) → DepartGoes (field_plan field) unit before old (share_view s)
+    → DepartTurned field unit before old new s t result
 
 -- The call may go on, from some beginning.
 abbrev pub DepartMayGo : {B : Type 0} → Field B → DepartCall → Share B → Type 0
-DepartMayGo field call share = (before : View) × DepartGoes (field_plan field) before call (share_view share)
+DepartMayGo field call share = (unit : ℕ) × (before : View) × DepartGoes (field_plan field) unit before call (share_view share)
 
 -- A new call may begin wherever a share may depart with a unit there.
 abbrev pub DepartBegins : ℕ → DepartCall → Type 0
-DepartBegins unit call = (p : PlanView) (v : View) → MayDepart p unit v → DepartGoes p v call v
+DepartBegins unit call = (p : PlanView) (v : View) → MayDepart p unit v → DepartGoes p unit v call v
