@@ -1,0 +1,4 @@
+pub mod Claiming
+pub mod Receipts
+pub mod Arriving
+pub mod Increments
