@@ -1,5 +1,5 @@
 -- What a claim's step shows of the pair: the handle that it takes is the root of the running vertex's finish.
-use Rattle.std.proofs.Common.{◌≡◌, ℕ, ◌+◌, ◌<◌, ◌≤◌, List, [], ◌∷◌, get_or, Option, refl, sym, ap, ◌∙◌, subst, arith, Some, cond, eqb}
+use Rattle.std.proofs.Common.{◌≡◌, ℕ, ◌<◌, [], ◌∷◌, get_or, Option, refl, sym, ap, ◌∙◌, subst, arith, Some, cond, eqb}
 use Prim.Native.Nat.{zero, suc}
 use Rattle.atomic_table.specs.Table.{Me}
 use Rattle.spd_words.specs.Plan.{PlanView, IsPlan, pair_place, grown_nodes}

@@ -22,7 +22,7 @@ use Rattle.spd_snzi.specs.declared.arrive.ArriveTurn.TheVariants as arrival
 use Rattle.spd_snzi.proofs.Coming.{root_step}
 use Rattle.spd_grow.specs.declared.grown.Grown.{Grown}
 use Rattle.spd_counter.specs.Claiming.{ClaimsHandle, pair_handle}
-use Rattle.spd_counter.specs.Receipts.{inc_in, still_at, still_receipt}
+use Rattle.spd_counter.specs.Receipts.{inc_in, still_at}
 use Rattle.spd_counter.specs.Arriving.{MayIncrement, ArrivesAtRoot}
 use Rattle.spd_counter.specs.Increments.{IncrementGoes, IncrementTurned, IncrementAnswers, HasArrived}
 use Rattle.spd_counter.specs.Increments.{increment_view, increment_place, increment_writes, increment_next, increment_left}

@@ -1,5 +1,5 @@
 -- When a share may increment, and how the first turn of an increment arrives.
-use Rattle.std.specs.Prelude.{◌≡◌, ◌+◌, ◌%◌, ◌^◌, ◌<◌, ℕ, Some}
+use Rattle.std.specs.Prelude.{◌≡◌, ◌<◌, ℕ, Some}
 use Rattle.spd_words.specs.Plan.{PlanView}
 use Rattle.spd_state.specs.Dag.{load_of}
 use Rattle.spd_state.specs.Stages.{finish_in}

@@ -1,5 +1,5 @@
 -- What a receipt says of a counter that hasn't grown.
-use Rattle.std.specs.Prelude.{◌≡◌, ◌≢◌, ℕ, Option, Some, None}
+use Rattle.std.specs.Prelude.{◌≢◌, ℕ, Option, Some, None}
 use Rattle.spd_state.specs.declared.view.Running.{Running}
 use Rattle.spd_state.specs.declared.view.View.{View}
 use Rattle.spd_grow.specs.declared.grown.Grown.{Grown}

@@ -1,3 +1,3 @@
--- Coin::flip's clauses on_tails and on_heads (src/coin.rt), by `HasFallen` of specs/Coins.
+-- Coin::flip's clauses (src/coin.rt), by `Raised` of specs/Coins.
 -- Steady coins: a saturating addition raises the number, or leaves it at its end.
 -- There is no lemma of the crate's own: the prover finds each answer.

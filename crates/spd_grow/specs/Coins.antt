@@ -8,7 +8,3 @@ number_end = 2 ^ 64 - 1
 -- It was raised, or stands at its end.
 abbrev pub Raised : ℕ → ℕ → Type 0
 Raised before now = (before < now) ⊎ ((now ≡ before) × (before ≡ number_end))
-
--- One side's number was raised, and the other's stays.
-abbrev pub HasFallen : ℕ → ℕ → ℕ → ℕ → Type 0
-HasFallen before now other_before other_now = Raised before now × (other_now ≡ other_before)

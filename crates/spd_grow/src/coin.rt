@@ -4,7 +4,7 @@
 /// side falls isn't promised.
 pub trait Coin: Send {
     ghost use Rattle.std.specs.Prelude.{◌≡◌, ℕ, true, false};
-    ghost use Rattle.spd_grow.specs.Coins.{HasFallen};
+    ghost use Rattle.spd_grow.specs.Coins.{Raised};
 
     ghost tails: { Self → ℕ };
 
@@ -13,6 +13,8 @@ pub trait Coin: Send {
     /// True for heads. The number of the side that fell is raised, or stands at its last value, 2^64 - 1;
     /// that of the other stays.
     fn flip(&mut self) -> bool
-        ensures on_tails { result ≡ false → HasFallen (tails self.old) (tails self.new) (heads self.old) (heads self.new) }
-        ensures on_heads { result ≡ true → HasFallen (heads self.old) (heads self.new) (tails self.old) (tails self.new) };
+        ensures tails_rise { result ≡ false → Raised (tails self.old) (tails self.new) }
+        ensures heads_stay { result ≡ false → heads self.new ≡ heads self.old }
+        ensures heads_rise { result ≡ true → Raised (heads self.old) (heads self.new) }
+        ensures tails_stay { result ≡ true → tails self.new ≡ tails self.old };
 }

@@ -39,7 +39,7 @@ impl Tails {
 }
 
 impl Coin for Heads {
-    ghost use Rattle.spd_grow.specs.Coins.{HasFallen};
+    ghost use Rattle.spd_grow.specs.Coins.{Raised};
     ghost use Rattle.spd_grow.specs.Steady.{heads_fallen};
 
     ghost tails = { λ _. 0 };
@@ -49,7 +49,7 @@ impl Coin for Heads {
     /// Heads.
     fn flip(&mut self) -> bool
         ensures side { result ≡ true }
-        ensures counts { HasFallen (heads_fallen self.old) (heads_fallen self.new) 0 0 }
+        ensures counts { Raised (heads_fallen self.old) (heads_fallen self.new) }
     {
         self.heads = self.heads.saturating_add(1);
         true
@@ -57,7 +57,7 @@ impl Coin for Heads {
 }
 
 impl Coin for Tails {
-    ghost use Rattle.spd_grow.specs.Coins.{HasFallen};
+    ghost use Rattle.spd_grow.specs.Coins.{Raised};
     ghost use Rattle.spd_grow.specs.Steady.{tails_fallen};
 
     ghost tails = { tails_fallen };
@@ -67,7 +67,7 @@ impl Coin for Tails {
     /// Tails.
     fn flip(&mut self) -> bool
         ensures side { result ≡ false }
-        ensures counts { HasFallen (tails_fallen self.old) (tails_fallen self.new) 0 0 }
+        ensures counts { Raised (tails_fallen self.old) (tails_fallen self.new) }
     {
         self.tails = self.tails.saturating_add(1);
         false

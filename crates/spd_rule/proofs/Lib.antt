@@ -1,7 +1,8 @@
 -- Each step's public clause `view`: the function of spd_state's `specs/Steps` of its name; `rule`: `StepUnderRule`.
 -- Glue: from typed words to words, once for each kind of word; `under_rule` shows the states of a step.
 -- Claims, Roots, ..: what the table allows, from the lemma of spd_state that the step keeps the rule.
--- Mirrors: the numbers beside a seat after a step.
+-- Mirrors: the numbers beside a seat after a step. Conserved: a step brings no body into a slot.
+-- Looking, Waking, Starts: what was seen ready stands, so that a late start finds the vertex started.
 pub mod Conserved
 pub mod Glue
 pub mod Claims

@@ -1,5 +1,5 @@
 -- What a share is told after a departure, and that it has taken a step.
-use Rattle.std.proofs.Common.{◌≡◌, ℕ, ◌+◌, ◌<◌, List, ◌∷◌, refl, ap, ◌∙◌, subst, sym, arith, Option, Some, None, Bool, true, false, cond, eqb}
+use Rattle.std.proofs.Common.{◌≡◌, ℕ, ◌+◌, ◌<◌, List, refl, ap, ◌∙◌, subst, sym, arith, Option, Some, None, Bool, true, false, cond, eqb}
 use lib.Dec.{ltb}
 use Rattle.atomic_table.specs.Table.{Me}
 use Rattle.spd_words.specs.Words.{Node}
@@ -9,7 +9,7 @@ use Rattle.spd_state.specs.declared.view.Running.{Running}
 use Rattle.spd_state.specs.declared.view.Flight.{Flight}
 use Rattle.spd_state.specs.declared.view.View.{View}
 use Rattle.spd_state.proofs.Sums.{same_self}
-use Rattle.spd_rule.specs.Rest.{at_rest, rested, sub_known}
+use Rattle.spd_rule.specs.Rest.{rested, sub_known}
 use Rattle.spd_rule.proofs.Settled.{lowered, told_rest}
 use Rattle.spd_rule.specs.Shares.{SubsUnderRule, root_place, field_plan, share_view, share_known}
 use Rattle.spd_rule.specs.declared.field.Field.{Field}
@@ -18,7 +18,6 @@ use Rattle.spd_words.specs.Plan.{PlanView}
 use Rattle.spd_words.specs.Words.{node_of}
 use Rattle.spd_snzi.specs.Told.{told_by, KnowsTold}
 use Rattle.spd_snzi.specs.Departures.{MayDepart, DepartGoes, DepartTurned}
-use Rattle.spd_snzi.specs.declared.depart.DepartCall.{DepartCall}
 use Rattle.spd_snzi.specs.declared.depart.DepartStage.{DepartStage}
 use Rattle.spd_snzi.specs.declared.depart.DepartStage.TheVariants as stage
 use Rattle.spd_snzi.specs.declared.depart.DepartTurn.TheVariants as turn

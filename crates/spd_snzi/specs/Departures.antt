@@ -7,7 +7,7 @@ use Rattle.spd_state.specs.declared.view.View.{View}
 use Rattle.spd_rule.specs.Held.{StepUnderRule}
 use Rattle.spd_rule.specs.Rest.{sub_known}
 use Rattle.spd_rule.specs.Steps.{MaySub}
-use Rattle.spd_rule.specs.Shares.{field_plan, share_view, share_bodies, share_known}
+use Rattle.spd_rule.specs.Shares.{field_plan, share_view, share_known}
 use Rattle.spd_rule.specs.declared.field.Field.{Field}
 use Rattle.spd_rule.specs.declared.field.Share.{Share}
 use Rattle.spd_snzi.specs.Told.{told_by, KnowsTold}

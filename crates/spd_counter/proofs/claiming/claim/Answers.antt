@@ -1,4 +1,4 @@
-use Rattle.std.proofs.Common.{◌≡◌, ℕ, ◌+◌, ◌%◌, ◌^◌}
+use Rattle.std.proofs.Common.{ℕ, ◌+◌, ◌%◌, ◌^◌}
 use Rattle.spd_rule.specs.Shares.{share_known, field_plan}
 use Rattle.spd_counter.proofs.Turns.{claims_next}
 use Rattle.spd_counter.proofs.claiming.claim.Goals as goal
