@@ -2,8 +2,12 @@
 -- Glue: from typed words to words, once for each kind of word; `under_rule` shows the states of a step.
 -- Claims, Roots, ..: what the table allows, from the lemma of spd_state that the step keeps the rule.
 -- Mirrors: the numbers beside a seat after a step.
+pub mod Follows
 pub mod Glue
 pub mod Claims
+pub mod Blanks
+pub mod Found
+pub mod Started
 pub mod Begins
 pub mod Counts
 pub mod Roots

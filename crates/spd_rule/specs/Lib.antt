@@ -1,3 +1,4 @@
+pub mod Consequences
 pub mod Held
 pub mod Nobody
 pub mod Idle
