@@ -4,9 +4,8 @@ use Rattle.atomic_table.specs.Table.{Allows}
 use Rattle.atomic_table.specs.Seated.{TableId}
 use Rattle.spd_words.specs.Plan.{plan_words}
 use Rattle.spd_words.specs.Meaning.{Meaning}
-use Rattle.spd_state.specs.Steps.{stepped}
 use Rattle.spd_rule.specs.Held.{Held}
-use Rattle.spd_rule.specs.Steps.{StartsVertex}
+use Rattle.spd_rule.specs.Steps.{StartsVertex, LateStart}
 use Rattle.spd_rule.specs.Beside.{Mirrors}
 use Rattle.spd_rule.proofs.Started.{mirrors_idle, idle_due, mirrors_start, start_due}
 use Rattle.spd_rule.proofs.Starts.{starts}
@@ -16,7 +15,7 @@ pub exchange-found-requires-clause-allows : goal.exchange-found-requires-clause-
 exchange-found-requires-clause-allows g c κs within = let share = c.args.share.now in let me = share.seat.me in let plan = c.args.field.now.plan in
     let slots : ℕ = c.args.field.now.table.shared.table_id.slots in let seen : ℕ = c.args.seen in
     subst (λ (i : ℕ). Allows (Held plan) slots share.seat.id me i (λ n. either (n == seen) (seen + 1) n)
-    (λ n m'. (n ≡ seen → StartsVertex (λ b. (g.B.Body.view b).means) plan c.args.v seen me m') × (n ≢ seen → m' ≡ (stepped me.0, me.1))))
+    (λ n m'. (n ≡ seen → StartsVertex (λ b. (g.B.Body.view b).means) plan c.args.v seen me m') × (n ≢ seen → LateStart c.args.v seen n me m')))
     (sym c.vertex_place-word.ensures.place)
     (starts (λ b. (g.B.Body.view b).means) plan slots share.seat.id me c.args.v seen c.args.field.now.deep c.requires.vertex c.requires.may share.mirrors.seated)
 
@@ -37,6 +36,6 @@ pub invariant_of-share-else-found-seen : goal.invariant_of-share-else-found-seen
 invariant_of-share-else-found-seen g c = let share = c.args.share.now in let z : TableId = share.seat.table_id in
     let after = c.exchange-found.new.seat.me in let miss = c.exchange-found.ensures.tells.1 c.if-found-seen.false in record {
       mirrors = subst (λ (t : TableId). Mirrors t after share.beside) (sym c.exchange-found.ensures.same.table)
-          (mirrors_idle z share.seat.me after share.beside share.mirrors share.holds miss);
-      holds = idle_due z share.seat.me after share.beside share.mirrors share.holds miss;
+          (mirrors_idle z share.seat.me after share.beside share.mirrors share.holds miss.known);
+      holds = idle_due z share.seat.me after share.beside share.mirrors share.holds miss.known;
     }
