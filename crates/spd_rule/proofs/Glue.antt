@@ -4,7 +4,7 @@ use mathlib.Core.Option.{some}
 use mathlib.Core.Option as maybe
 use lib.ListN.{get_elem?}
 use lib.Seq.{set-get_or}
-use Rattle.atomic_table.specs.Table.{Me, Act, Valid, homes_after, carried_after, Allows, stepped}
+use Rattle.atomic_table.specs.Table.{State, Me, Act, Valid, homes_after, carried_after, Allows, stepped}
 use Rattle.spd_words.specs.Plan.{PlanView, moves_place, node_place, pair_place, vertex_place}
 use Rattle.spd_words.specs.Words.{Vertex, NodeFits, PairFits, VertexFits, pack_node, pack_pair, pack_vertex}
 use Rattle.spd_state.specs.Sums.{put}
@@ -17,6 +17,7 @@ use Rattle.spd_state.proofs.Showing.{shown_kept}
 use Rattle.spd_state.proofs.Writes.{write_moves, write_node, write_pair, write_vertex}
 use Rattle.spd_rule.specs.Held.{Held, StepUnderRule}
 use Rattle.spd_rule.proofs.Conserved.{lay_there}
+use Rattle.spd_rule.proofs.Follows.{follows}
 
 -- what a step tells, it tells of a step under the rule
 module _ {B : Type 0} (p key picked : PlanView) (keyed : key ≡ p) (is : picked ≡ p) (slots id : ℕ) (me : Me (Option B) View) (place : ℕ) where
@@ -40,6 +41,8 @@ module _ {B : Type 0} (p key picked : PlanView) (keyed : key ≡ p) (is : picked
         words = refl;
         views = refl;
         bodies = lay_there r.1 s.homes me.1 r.2;
+        follows_before = follows p held.dag s.homes s.views held.kept;
+        follows_after = follows p r.3.dag (homes_after s.homes me.1 r.1) (set s.views id r.0) r.3.kept;
       },
     ),
   )
@@ -61,6 +64,23 @@ module _ {B : Type 0} (p key picked : PlanView) (keyed : key ≡ p) (is : picked
       (λ _ m'. tells x m' × (w : ℕ) × StepUnderRule picked place w x me m')) (sym keyed)
       (subst (λ (k : PlanView). Allows (Held p) slots id me place (λ _. x) (λ _ m'. tells x m' × (w : ℕ) × StepUnderRule k place w x me m')) (sym is)
       (stored x (tells x) allowed))
+
+module _ {B : Type 0} (p : PlanView) (id : ℕ) (me : Me (Option B) View) (place : ℕ) where
+  -- Whatever the table is under the rule while the share has its view, the word is 0.
+  abbrev pub IsBlank : Type 0
+  IsBlank = (s : State (Option B) View) → Held p s → get_elem? s.views id ≡ some me.0 → get_or s.words place 0 ≡ 0
+
+  -- a store onto such a word says that it found 0
+  pub stores_blank : (slots x : ℕ) (then : Me (Option B) View → Type 0) → IsBlank → Allows (Held p) slots id me place (λ _. x) (λ _. then)
+      → Allows (Held p) slots id me place (λ _. x) (λ _ m'. then m' × StepUnderRule p place 0 x me m')
+  stores_blank slots x then blank allowed s held deep at fits =
+      let r = taken p p p refl refl slots id me place (λ _. x) (λ _. then) allowed s held deep at fits in (
+        r.0,
+        r.1,
+        r.2,
+        r.3,
+        (r.4.0, subst (λ (n : ℕ). StepUnderRule p place n x me (r.0, carried_after me.1 r.1)) (blank s held at) r.4.1),
+      )
 
 module _ {B : Type 0} (p : PlanView) (slots id : ℕ) (me : Me (Option B) View) where
   -- the new view and the act of a step, after which the typed words are those of b

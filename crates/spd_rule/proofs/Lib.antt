@@ -4,8 +4,12 @@
 -- Mirrors: the numbers beside a seat after a step. Conserved: a step brings no body into a slot.
 -- Looking, Waking, Starts: what was seen ready stands, so that a late start finds the vertex started.
 pub mod Conserved
+pub mod Follows
 pub mod Glue
 pub mod Claims
+pub mod Blanks
+pub mod Found
+pub mod Started
 pub mod Begins
 pub mod Counts
 pub mod Roots

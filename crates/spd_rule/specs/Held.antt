@@ -11,6 +11,7 @@ use Rattle.spd_state.specs.Seats.{IsEmpty}
 use Rattle.spd_state.specs.Shown.{AllShown}
 use Rattle.spd_state.specs.declared.view.View.{View}
 use Rattle.spd_rule.specs.Lying.{LiesIn}
+use Rattle.spd_rule.specs.Consequences.{Consequences}
 
 -- The words are typed words, which with the bodies at home and the views keep each part of the rule; and each vertex
 -- that a share has seen ready stands as it was seen, or was started.
@@ -21,8 +22,8 @@ pub record Held {B : Type 0} (p : PlanView) (s : State (Option B) View) : Type 0
   pub shown : AllShown p.moves dag.vertices s.views
 
 -- A share that had the view and the slots `me` found a word at this place and left another there, and had `me'`
--- afterwards. The rule held just before the step and just after it, and that word and that view alone changed. What lies
--- in a slot after the step, at home or with the share, lay there before it.
+-- afterwards. The rule held just before the step and just after it, with all that follows from it, and that word and that
+-- view alone changed. What lies in a slot after the step, at home or with the share, lay there before it.
 pub record StepUnderRule {B : Type 0} (p : PlanView) (place found left : ℕ) (me me' : Me (Option B) View) : Type 0 where
   pub before : State (Option B) View
   pub after : State (Option B) View
@@ -34,8 +35,11 @@ pub record StepUnderRule {B : Type 0} (p : PlanView) (place found left : ℕ) (m
   pub words : after.words ≡ slice_set before.words place left
   pub views : after.views ≡ slice_set before.views seat me'.0
   pub bodies : (i : ℕ) (y : Option B) → LiesIn i y after.homes me'.1 → LiesIn i y before.homes me.1
+  pub follows_before : Consequences p held.dag before.views
+  pub follows_after : Consequences p kept.dag after.views
 
--- The words are those of a state that keeps the rule, in which a share had this view, and no other held anything.
+-- The words are those of a state that keeps the rule, with all that follows from it, in which a share had this view, and no other held
+-- anything.
 pub record EndsUnderRule (B : Type 0) (p : PlanView) (words : List ℕ) (v : View) : Type 0 where
   pub last : State (Option B) View
   pub seat : ℕ
@@ -43,6 +47,7 @@ pub record EndsUnderRule (B : Type 0) (p : PlanView) (words : List ℕ) (v : Vie
   pub knew : get_elem? last.views seat ≡ some v
   pub alone : (j : ℕ) (u : View) → j ≢ seat → get_elem? last.views j ≡ some u → IsEmpty u
   pub ends : last.words ≡ words
+  pub follows : Consequences p held.dag last.views
 
 -- stands where no plan was picked
 abbrev pub no_plan : PlanView

@@ -1,4 +1,5 @@
 pub mod Lying
+pub mod Consequences
 pub mod Held
 pub mod Nobody
 pub mod Idle

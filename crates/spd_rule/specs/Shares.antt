@@ -1,13 +1,14 @@
 -- What a clause says of a field and its shares.
-use Rattle.std.specs.Prelude.{◌≡◌, ◌≢◌, ◌∷◌, ◌+◌, ◌-◌, ◌%◌, ◌^◌, ℕ, List, Option, Result, Ok, Err}
+use Rattle.std.specs.Prelude.{◌≡◌, ◌≢◌, ◌∷◌, ◌+◌, ◌-◌, ◌%◌, ◌^◌, ◌<◌, ◌≤◌, ℕ, List, Option, Result, Ok, Err}
 use Rattle.atomic_table.specs.Table.{Me, rest}
 use Rattle.spd_words.specs.Plan.{PlanView, node_place, pair_place, vertex_place}
 use Rattle.spd_words.specs.Meaning.{Meaning}
 use Rattle.spd_state.specs.declared.view.Draw.{Draw}
 use Rattle.spd_state.specs.declared.view.View.{View}
 use Rattle.spd_rule.specs.Steps.{pair_in, StartsVertex, LateStart, DrawsMove}
-use Rattle.spd_words.specs.Words.{Pair, Vertex, pack_pair, pack_vertex}
+use Rattle.spd_words.specs.Words.{Pair, Vertex, node_of, pack_pair, pack_vertex}
 use Rattle.spd_rule.specs.Moves.{MaySetVertex, pair_set}
+use Rattle.spd_rule.specs.Consequences.{IsOver}
 use Rattle.spd_rule.specs.Held.{StepUnderRule}
 use Rattle.spd_rule.specs.declared.field.Field.{Field}
 use Rattle.spd_rule.specs.declared.field.Share.{Share}
@@ -47,9 +48,9 @@ abbrev pub SubsUnderRule : {B : Type 0} → Field B → ℕ → ℕ → ℕ → 
 SubsUnderRule f place k found s t = StepUnderRule f.plan place found
     ((found + (2 ^ 64 - k)) % 2 ^ 64) s.seat.me t.seat.me
 
--- the same of a store, which shows nothing of the word
+-- the same of a store onto a word that was 0 until then
 abbrev pub StoresUnderRule : {B : Type 0} → Field B → ℕ → ℕ → Share B → Share B → Type 0
-StoresUnderRule f place left s t = (found : ℕ) × StepUnderRule f.plan place found left s.seat.me t.seat.me
+StoresUnderRule f place left s t = StepUnderRule f.plan place 0 left s.seat.me t.seat.me
 
 -- where the pair of the running vertex stands
 abbrev pub claim_place : {B : Type 0} → Field B → Share B → ℕ
@@ -64,6 +65,15 @@ ExchangesUnderRule f place seen next (Err w) s t = StepUnderRule f.plan place w 
 abbrev pub StartAnswer : {B : Type 0} → (B → Meaning) → Field B → ℕ → ℕ → Result ℕ ℕ → Share B → Share B → Type 0
 StartAnswer means f v seen (Ok w) s t = (w ≡ seen) × StartsVertex means f.plan v seen s.seat.me t.seat.me
 StartAnswer means f v seen (Err w) s t = (w ≢ seen) × LateStart v seen w s.seat.me t.seat.me
+
+-- The claim found a handle left of the two at most.
+abbrev pub FindsHandle : Pair → Type 0
+FindsHandle q = (q.claims < q.total) × (q.total ≤ 2)
+
+-- The step at root d found the count 1: it left 0 there, and then the finish d was over.
+abbrev pub OverAtLast : {B : Type 0} → Field B → ℕ → ℕ → Share B → Share B → Type 0
+OverAtLast f d found s t = (node_of found).twice ≡ 2 → (step : SubsUnderRule f (node_place f.plan d) 2 found s t)
+    × IsOver f.plan step.kept.dag step.after.views d
 
 -- where the words of a root and of a vertex stand
 abbrev pub root_place : {B : Type 0} → Field B → ℕ → ℕ

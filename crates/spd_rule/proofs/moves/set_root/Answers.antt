@@ -1,9 +1,12 @@
 use Rattle.std.proofs.Common.{◌≡◌, ◌<◌, ℕ, sym, subst, ap, ◌∙◌}
 use Rattle.atomic_table.specs.Table.{Allows}
 use Rattle.atomic_table.specs.Seated.{TableId}
-use Rattle.spd_rule.specs.Held.{Held}
+use Rattle.spd_words.specs.Plan.{node_place}
+use Rattle.spd_rule.specs.Held.{Held, StepUnderRule}
 use Rattle.spd_rule.specs.Moves.{root_set}
 use Rattle.spd_rule.proofs.Mirrors.{flies_low}
+use Rattle.spd_rule.proofs.Glue.{stores_blank}
+use Rattle.spd_rule.proofs.Blanks.{root_blank}
 use Rattle.spd_rule.proofs.Sets.{sets_root}
 use Rattle.spd_rule.proofs.moves.set_root.Goals as goal
 
@@ -12,8 +15,16 @@ store-requires-clause-allows g c κs within = let share = c.args.share.now in le
     let slots : ℕ = c.args.field.now.table.shared.table_id.slots in let d : ℕ = c.args.d in
     let low : d < p.moves = flies_low p share.seat.table_id me share.beside share.mirrors
     (ap (λ (z : TableId). z.slots) c.requires.of ∙ c.args.field.now.deep) _ c.requires.may.flies in
-    subst (λ (x : ℕ). Allows (Held p) slots share.seat.id me c.node_place-word.result (λ _. x) (λ _ m'. m' ≡ (root_set d g.P.Told.told me.0, me.1)))
+    subst (λ (x : ℕ). Allows (Held p) slots share.seat.id me c.node_place-word.result (λ _. x)
+    (λ _ m'. (m' ≡ (root_set d g.P.Told.told me.0, me.1)) × StepUnderRule p c.node_place-word.result 0 x me m'))
     (sym c.pack.ensures.word)
-    (subst (λ (i : ℕ). Allows (Held p) slots share.seat.id me i (λ _. 2) (λ _ m'. m' ≡ (root_set d g.P.Told.told me.0, me.1)))
+    (subst (λ (i : ℕ). Allows (Held p) slots share.seat.id me i (λ _. 2)
+    (λ _ m'. (m' ≡ (root_set d g.P.Told.told me.0, me.1)) × StepUnderRule p i 0 2 me m'))
     (sym c.node_place-word.ensures.place)
-    (sets_root p slots share.seat.id me d g.P.Told.told low c.requires.may))
+    (stores_blank p share.seat.id me (node_place p d) slots 2 (λ m'. m' ≡ (root_set d g.P.Told.told me.0, me.1))
+    (root_blank p share.seat.id me d g.P.Told.told low c.requires.may) (sets_root p slots share.seat.id me d g.P.Told.told low c.requires.may)))
+
+pub returns-clause-rule : goal.returns-clause-rule
+returns-clause-rule g c = let share = c.args.share.now in let p = c.args.field.now.plan in let after = c.store.new.seat.me in
+    subst (λ (i : ℕ). StepUnderRule p i 0 2 share.seat.me after) c.node_place-word.ensures.place
+    (subst (λ (x : ℕ). StepUnderRule p c.node_place-word.result 0 x share.seat.me after) c.pack.ensures.word c.store.ensures.tells.1)

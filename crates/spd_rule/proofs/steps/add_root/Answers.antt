@@ -1,7 +1,8 @@
 use Rattle.std.proofs.Common.{◌≡◌, ℕ, ◌+◌, ◌%◌, ◌^◌, sym, subst, arith}
 use Rattle.atomic_table.specs.Table.{Allows}
 use Rattle.spd_state.specs.Steps.{add_view}
-use Rattle.spd_rule.specs.Held.{Held}
+use Rattle.spd_rule.specs.Held.{Held, StepUnderRule}
+use Rattle.spd_rule.proofs.Found.{root_live}
 use Rattle.spd_rule.proofs.Roots.{adds_root}
 use Rattle.spd_rule.proofs.Counts.{same_length}
 use Rattle.spd_rule.proofs.steps.add_root.Goals as goal
@@ -16,3 +17,9 @@ add-old-requires-clause-allows g c κs within = let share = c.args.share.now in 
 pub hold-requires : goal.hold-requires
 hold-requires g c = let share = c.args.share.now in let e = same_length share.beside.units.items share.seat.me.0.held share.mirrors.units in
     let r = c.requires.may.room in omega arith
+
+pub returns-clause-live : goal.returns-clause-live
+returns-clause-live g c = let share = c.args.share.now in let p = c.args.field.now.plan in let n : ℕ = c.add-old.result in
+    root_live p share.seat.me c.add-old.new.seat.me n ((n + 2) % 2 ^ 64) c.args.d c.requires.root
+    (subst (λ (i : ℕ). StepUnderRule p i n ((n + 2) % 2 ^ 64) share.seat.me c.add-old.new.seat.me) c.node_place-word.ensures.place c.add-old.ensures.rule)
+    c.requires.may.right

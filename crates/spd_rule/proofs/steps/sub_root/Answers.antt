@@ -4,12 +4,14 @@ use Rattle.atomic_table.specs.Seated.{TableId}
 use Rattle.spd_words.specs.Words.{node_of}
 use Rattle.spd_state.specs.Steps.{sub_after}
 use Rattle.spd_state.specs.declared.view.View.{View}
-use Rattle.spd_rule.specs.Held.{Held}
+use Rattle.spd_words.specs.Plan.{node_place}
+use Rattle.spd_rule.specs.Held.{Held, StepUnderRule}
 use Rattle.spd_rule.specs.Rest.{due, at_rest}
 use Rattle.spd_rule.proofs.Settled.{mirrors_rest, told_rest, sub_due}
 use Rattle.spd_rule.specs.Beside.{Mirrors}
 use Rattle.spd_rule.specs.Idle.{DepartsFrom}
 use Rattle.spd_rule.proofs.Mirrors.{unit_stands, mirrors_depart}
+use Rattle.spd_rule.proofs.Found.{root_holds, over_at_last}
 use Rattle.spd_rule.proofs.Roots.{subs_root}
 use Rattle.spd_rule.proofs.steps.sub_root.Goals as goal
 
@@ -45,3 +47,17 @@ invariant_of-share g c = let share = c.args.share.now in let me = share.seat.me 
           (node_of old) c.requires.may.unit k (omega arith))));
       holds = subst (λ (m : Me (Option g.row.B.Denot) View). m.0.slots ≡ due m.0.flight m.0.running) (sym tells.0) (sub_due d (node_of old) me share.holds);
     }
+
+pub returns-clause-unit : goal.returns-clause-unit
+returns-clause-unit g c = let share = c.args.share.now in let p = c.args.field.now.plan in let n : ℕ = c.sub-old.result in
+    root_holds p share.seat.me c.sub-old.new.seat.me n ((n + (2 ^ 64 - 2)) % 2 ^ 64) c.args.d c.requires.root
+    (subst (λ (i : ℕ). StepUnderRule p i n ((n + (2 ^ 64 - 2)) % 2 ^ 64) share.seat.me c.sub-old.new.seat.me) c.node_place-word.ensures.place
+    c.sub-old.ensures.rule)
+    c.requires.may.unit
+
+pub returns-clause-over : goal.returns-clause-over
+returns-clause-over g c two = let share = c.args.share.now in let p = c.args.field.now.plan in let n : ℕ = c.sub-old.result in
+    let step : StepUnderRule p (node_place p c.args.d) n ((n + (2 ^ 64 - 2)) % 2 ^ 64) share.seat.me c.sub-old.new.seat.me =
+    subst (λ (i : ℕ). StepUnderRule p i n ((n + (2 ^ 64 - 2)) % 2 ^ 64) share.seat.me c.sub-old.new.seat.me) c.node_place-word.ensures.place
+    c.sub-old.ensures.rule in
+    (step, over_at_last p share.seat.me c.sub-old.new.seat.me c.args.d n c.requires.root two step)
