@@ -14,6 +14,7 @@ mod closed;
 mod field;
 mod moves;
 mod opening;
+mod reading;
 mod rule;
 mod seats;
 mod steps;
