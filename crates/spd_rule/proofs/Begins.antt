@@ -1,25 +1,41 @@
 -- The rule holds of a new field; and a view may be cut in two, and two may become one.
-use Rattle.std.proofs.Common.{◌≡◌, ℕ, ◌*◌, ◌<◌, List, replicate, sym, ap, ◌∙◌, arith, None}
+use Rattle.std.proofs.Common.{◌≡◌, ℕ, ◌*◌, ◌<◌, List, [], set, replicate, refl, sym, ap, ◌∙◌, arith, None}
+use mathlib.Core.Option.{some-ne-none}
 use Rattle.atomic_table.specs.Table.{Splits, Joins, opening}
 use Rattle.spd_words.specs.Plan.{PlanView, IsPlan}
+use Rattle.spd_words.specs.Words.{Vertex}
 use Rattle.spd_words.specs.declared.scheme.Scheme.TheVariants.{Flat}
+use Rattle.spd_state.specs.Sums.{Each}
+use Rattle.spd_state.specs.Shown.{ShownOk}
 use Rattle.spd_state.specs.Tree.{first_trees, start_of}
 use Rattle.spd_state.specs.Seats.{kept_view, given_view, joined_view, spent_view, first_view, IsEmpty}
 use Rattle.spd_state.specs.declared.view.View.{View}
 use Rattle.spd_state.proofs.Seats.{split_keeps, join_keeps}
 use Rattle.spd_state.proofs.Opening.{opens, blank}
+use Rattle.spd_state.proofs.Showing.{shown_split}
+use Rattle.spd_state.proofs.Sums.{each_kept, each_cons}
 use Rattle.spd_rule.specs.Held.{Held}
 use Rattle.spd_rule.specs.Openings.{StartsBlank}
 
+none_shown : (m : ℕ) (vertices : ℕ → Vertex) → Each (ShownOk m vertices) []
+none_shown m vertices j s e = absurd (some-ne-none s (sym e))
+
 module _ {B : Type 0} (p : PlanView) where
   pub splits : (id : ℕ) (v : View) → 0 < v.spare → Splits (Held {B = B} p) id v (kept_view v) (given_view v)
-  splits id v more s held at = record { dag = held.dag; written = held.written; kept = split_keeps p held.dag s.homes s.views held.kept id v at more }
+  splits id v more s held at = record {
+    dag = held.dag;
+    written = held.written;
+    kept = split_keeps p held.dag s.homes s.views held.kept id v at more;
+    shown = shown_split p.moves held.dag.vertices s.views held.shown id v at (kept_view v) (given_view v) refl refl;
+  }
 
   pub joins : (id : ℕ) (v : View) (other : ℕ) (o : View) → IsEmpty o → Joins (Held {B = B} p) id v other o (joined_view v o) spent_view
   joins id v other o empty s held at apart there = record {
     dag = held.dag;
     written = held.written;
     kept = join_keeps p held.dag s.homes s.views held.kept id v at other o apart there empty;
+    shown = let sees : View → Type 0 = λ u. Each (ShownOk p.moves held.dag.vertices) u.shown in each_kept sees (set s.views id (joined_view v o)) other spent_view
+        (none_shown p.moves held.dag.vertices) (each_kept sees s.views id (joined_view v o) (held.shown id v at) held.shown);
   }
 
   pub begins : IsPlan p → p.scheme ≡ Flat → (ws : List ℕ) → StartsBlank p ws → Held {B = B} p (opening ws (replicate (2 * p.moves) None) first_view)
@@ -44,4 +60,6 @@ module _ {B : Type 0} (p : PlanView) where
       faults_fit = λ d l. omega arith;
     };
     kept = opens p plan;
+    shown = each_cons (λ (u : View). Each (ShownOk p.moves (blank p).vertices) u.shown) first_view [] (none_shown p.moves (blank p).vertices)
+        (λ j u e. absurd (some-ne-none u (sym e)));
   }

@@ -13,7 +13,7 @@ use Rattle.spd_state.specs.declared.view.View.{View}
 use Rattle.spd_state.proofs.Claim.{claim_keeps}
 use Rattle.spd_state.proofs.Rights.{unclaimed}
 use Rattle.spd_rule.specs.Held.{Held}
-use Rattle.spd_rule.proofs.Glue.{allow_pair}
+use Rattle.spd_rule.proofs.Glue.{allow_pair, unseen}
 
 module _ {B : Type 0} (p : PlanView) (slots id : ℕ) (me : Me (Option B) View) where
   pub claims : (r : Running) → me.0.running ≡ Some r → r.right ≡ 1 → load_of me.0 < 66 → r.pair < p.moves
@@ -33,6 +33,7 @@ module _ {B : Type 0} (p : PlanView) (slots id : ℕ) (me : Me (Option B) View) 
           valid = tt;
           kept = subst (λ (w : View). Rule p (record a { pairs = put a.pairs r.pair (claim_pair q) }) homes (set vs id w)) (sym same)
               (claim_keeps p a homes vs from.rule id v from.at r is mine room);
+          shown = unseen p slots id me a homes vs from (claim_after (pair_of (pack_pair q)) v) refl;
           tells = refl;
         };
       })

@@ -18,7 +18,7 @@ use Rattle.spd_state.proofs.Moved.{draw_keeps}
 use Rattle.spd_state.proofs.Bounds.{drawn_few}
 use Rattle.spd_rule.specs.Held.{Held}
 use Rattle.spd_rule.specs.Steps.{MayDrawMove, DrawsMove}
-use Rattle.spd_rule.proofs.Glue.{allow_moves}
+use Rattle.spd_rule.proofs.Glue.{allow_moves, unseen}
 
 module _ {B : Type 0} (p : PlanView) (slots id : ℕ) (me : Me (Option B) View) where
   pub draws : (draw : Draw) (told : Meaning) → slots ≡ 2 * p.moves → MayDrawMove draw told me.0 → 0 < me.0.seats
@@ -35,6 +35,7 @@ module _ {B : Type 0} (p : PlanView) (slots id : ℕ) (me : Me (Option B) View) 
           act = chain (takes (second_slot draw a.drawn) None) (takes (first_slot draw a.drawn) None);
           valid = slots_there draw a.drawn homes fresh.0 fresh.1;
           kept = draw_keeps p a homes vs rule id me.0 from.at seated (from.deep ∙ size) may.flight draw told may.maker may.free room;
+          shown = unseen p slots id me a homes vs from (drawn_view draw a.drawn told me.0) refl;
           tells = record { drawn = λ _. refl; full = λ k. absurd (omega arith); few = most };
         };
       })
@@ -47,6 +48,7 @@ module _ {B : Type 0} (p : PlanView) (slots id : ℕ) (me : Me (Option B) View) 
           act = keeps;
           valid = tt;
           kept = full_keeps p a homes vs rule id me.0 from.at seated may.unmarked (omega arith);
+          shown = unseen p slots id me a homes vs from (full_view me.0) refl;
           tells = record { drawn = λ k. absurd (omega arith); full = λ _. refl; few = most };
         };
       }))

@@ -6,11 +6,14 @@ use lib.ListN.{get_elem?}
 use lib.Seq.{set-get_or}
 use Rattle.atomic_table.specs.Table.{Me, Act, Valid, homes_after, carried_after, Allows, stepped}
 use Rattle.spd_words.specs.Plan.{PlanView, moves_place, node_place, pair_place, vertex_place}
-use Rattle.spd_words.specs.Words.{NodeFits, PairFits, VertexFits, pack_node, pack_pair, pack_vertex}
+use Rattle.spd_words.specs.Words.{Vertex, NodeFits, PairFits, VertexFits, pack_node, pack_pair, pack_vertex}
 use Rattle.spd_state.specs.Sums.{put}
 use Rattle.spd_state.specs.Dag.{Dag, IsWritten}
 use Rattle.spd_state.specs.Parts.{Rule}
+use Rattle.spd_state.specs.declared.view.Shown.{Shown}
 use Rattle.spd_state.specs.declared.view.View.{View}
+use Rattle.spd_state.specs.Shown.{ShownOk, AllShown}
+use Rattle.spd_state.proofs.Showing.{shown_kept}
 use Rattle.spd_state.proofs.Writes.{write_moves, write_node, write_pair, write_vertex}
 use Rattle.spd_rule.specs.Held.{Held, StepUnderRule}
 
@@ -64,13 +67,25 @@ module _ {B : Type 0} (p : PlanView) (slots id : ℕ) (me : Me (Option B) View) 
     pub act : Act (Option B)
     pub valid : Valid homes me.1 act
     pub kept : Rule p b (homes_after homes me.1 act) (set vs id view)
+    pub shown : AllShown p.moves b.vertices (set vs id view)
     pub tells : then (view, carried_after me.1 act)
 
   -- what a step may start from
   pub record From (a : Dag) (homes : List (maybe.Option (Option B))) (vs : List View) : Type 0 where
     pub rule : Rule p a homes vs
+    pub shown : AllShown p.moves a.vertices vs
     pub deep : length homes ≡ slots
     pub at : get_elem? vs id ≡ some me.0
+
+  -- no other vertex is seen, and the vertices stay, or one of them is written in a way that keeps what was seen
+  pub unseen : (a : Dag) (homes : List (maybe.Option (Option B))) (vs : List View) → From a homes vs → (w : View) → w.shown ≡ me.0.shown
+      → AllShown p.moves a.vertices (set vs id w)
+  unseen a homes vs from w e = shown_kept p.moves a.vertices a.vertices vs from.shown (λ s h. h) id me.0 from.at w e
+
+  pub unseen_by : (a : Dag) (homes : List (maybe.Option (Option B))) (vs : List View) → From a homes vs → (i : ℕ) (x : Vertex)
+      → ((s : Shown) → ShownOk p.moves a.vertices s → ShownOk p.moves (put a.vertices i x) s) → (w : View) → w.shown ≡ me.0.shown
+      → AllShown p.moves (put a.vertices i x) (set vs id w)
+  unseen_by a homes vs from i x stays w e = shown_kept p.moves a.vertices (put a.vertices i x) vs from.shown stays id me.0 from.at w e
 
   -- the step writes x in place of a typed word, or leaves the word
   pub record Writes {W : Type 0} (Fits : W → Type 0) (pack : W → ℕ) (change : Dag → W → Dag) (a : Dag) (old : W) (f : ℕ → ℕ)
@@ -103,6 +118,7 @@ module _ {B : Type 0} (p : PlanView) (slots id : ℕ) (me : Me (Option B) View) 
           dag = change a k.new;
           written = subst (λ (x : ℕ). IsWritten p (change a k.new) (set s.words place x)) (k.packs ∙ ap f (sym e)) (write a s.words k.new k.fits held.written);
           kept = m.kept;
+          shown = m.shown;
         },
         subst (λ (x : ℕ). then x (m.view, carried_after me.1 m.act)) (sym e) m.tells,
       ))
@@ -115,10 +131,11 @@ module _ {B : Type 0} (p : PlanView) (slots id : ℕ) (me : Me (Option B) View) 
           written = subst (λ (ws : List ℕ). IsWritten p a ws) (sym (ap (set s.words place) (ap f e ∙ (k.stays ∙ sym e))
               ∙ set-get_or s.words place 0)) held.written;
           kept = m.kept;
+          shown = m.shown;
         },
         subst (λ (x : ℕ). then x (m.view, carried_after me.1 m.act)) (sym e) m.tells,
       ))
-      (step a s.homes s.views record { rule = held.kept; deep = deep; at = at } was.1 (subst (λ (x : ℕ). x < 18446744073709551616) e fits))
+      (step a s.homes s.views record { rule = held.kept; shown = held.shown; deep = deep; at = at } was.1 (subst (λ (x : ℕ). x < 18446744073709551616) e fits))
 
   pub allow_moves : (f : ℕ → ℕ) (then : ℕ → Me (Option B) View → Type 0)
       → ((a : Dag) (homes : List (maybe.Option (Option B))) (vs : List View) → From a homes vs → a.drawn < 18446744073709551616

@@ -16,3 +16,5 @@ pub mod Resting
 pub mod Settled
 pub mod Stores
 pub mod Stored
+pub mod Looking
+pub mod Waking

@@ -29,7 +29,7 @@ use Rattle.spd_state.specs.declared.view.Draw.TheVariants.{Make, Chain, Spawn}
 use Rattle.spd_state.specs.declared.view.Flight.{Flight}
 use Rattle.spd_rule.specs.declared.beside.Beside.{Beside}
 
-kept_inside : (z : TableId) (b : Bool) (o : Option Running) → ((r : Running) → o ≡ Some r → IsWithin z r × (r.side < 2)) → (r : Running) → keep_if b o ≡ Some r
+pub kept_inside : (z : TableId) (b : Bool) (o : Option Running) → ((r : Running) → o ≡ Some r → IsWithin z r × (r.side < 2)) → (r : Running) → keep_if b o ≡ Some r
     → IsWithin z r × (r.side < 2)
 kept_inside z true o h r e = h r e
 kept_inside z false o h r e = absurd (cc)

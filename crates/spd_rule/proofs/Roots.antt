@@ -13,8 +13,8 @@ use Rattle.spd_state.proofs.Settle.{sub_all, unit_there, there_set}
 use Rattle.spd_rule.specs.Held.{Held}
 use Rattle.spd_rule.specs.Rest.{due, at_rest}
 use Rattle.spd_rule.proofs.Resting.{rests, bound_by, running_started}
-use Rattle.spd_rule.proofs.Settled.{sub_slots, sub_flight}
-use Rattle.spd_rule.proofs.Glue.{allow_node}
+use Rattle.spd_rule.proofs.Settled.{sub_slots, sub_flight, sub_shown, shown_rest}
+use Rattle.spd_rule.proofs.Glue.{allow_node, unseen}
 use Rattle.spd_state.proofs.Bounds.{told_few}
 
 module _ {B : Type 0} (p : PlanView) (slots id : ℕ) (me : Me (Option B) View) where
@@ -31,6 +31,7 @@ module _ {B : Type 0} (p : PlanView) (slots id : ℕ) (me : Me (Option B) View) 
           act = keeps;
           valid = tt;
           kept = add_keeps p a homes vs from.rule id me.0 from.at d low right room;
+          shown = unseen p slots id me a homes vs from (add_view d me.0) refl;
           tells = refl;
         };
       })
@@ -58,6 +59,7 @@ module _ {B : Type 0} (p : PlanView) (slots id : ℕ) (me : Me (Option B) View) 
           act = r.act;
           valid = r.valid;
           kept = r.kept;
+          shown = unseen p slots id me a homes vs from v (shown_rest (w, me.1) ∙ sub_shown d x me.0);
           tells = (
             (λ i. (v, sym r.carried i)) ∙ ap (λ (y : Node). at_rest (sub_after d y me.0, me.1)) (sym (node_read x fit)),
             told_few p b (homes_after homes me.1 r.act) (set vs id v) r.kept id v (there_set vs id me.0 v from.at),

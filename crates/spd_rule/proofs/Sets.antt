@@ -1,5 +1,5 @@
 -- The table allows the words of a move in flight to be set.
-use Rattle.std.proofs.Common.{◌≡◌, ◌≢◌, ℕ, ◌<◌, List, set, refl, sym, ap, subst, arith, Option, Some, inl, ⊎_elim}
+use Rattle.std.proofs.Common.{◌≡◌, ◌≢◌, ℕ, ◌<◌, List, set, refl, sym, ap, subst, arith, Option, Some, None, inl, ⊎_elim}
 use mathlib.Core.Option.{some}
 use mathlib.Core.Option as maybe
 use Rattle.atomic_table.specs.Table.{Me, keeps, Allows}
@@ -21,8 +21,8 @@ use Rattle.spd_state.proofs.Handed.{Hands, make_hands, chain_hands, handed_keeps
 use Rattle.spd_state.proofs.Lookup.{known_under}
 use Rattle.spd_state.proofs.Paired.{paired_keeps}
 use Rattle.spd_rule.specs.Held.{Held}
-use Rattle.spd_rule.specs.Moves.{MaySetRoot, MaySetPair, HandsRoot, HandsTwo, root_set, pair_set, draw_in, pair_kind, IsPairOf}
-use Rattle.spd_rule.proofs.Glue.{From, allow_node, allow_pair}
+use Rattle.spd_rule.specs.Moves.{MaySetRoot, MaySetPair, HandsRoot, HandsTwo, root_set, pair_set, flight_pair_set, draw_in, pair_kind, IsPairOf}
+use Rattle.spd_rule.proofs.Glue.{From, allow_node, allow_pair, unseen}
 
 opens_of : (draw : Draw) → draw ≢ Spawn → Opens draw
 opens_of Make other = make_opens
@@ -33,6 +33,16 @@ hands_of : (draw : Draw) → draw ≢ Spawn → Hands draw
 hands_of Make other = make_hands
 hands_of Chain other = chain_hands
 hands_of Spawn other = absurd (other refl)
+
+-- setting a pair shows nothing
+flight_shown : (draw : Draw) (f : Flight) (second : ℕ) (left right : Meaning) (v : View) → (flight_pair_set draw f second left right v).shown ≡ v.shown
+flight_shown Make f second left right v = refl
+flight_shown Chain f second left right v = refl
+flight_shown Spawn f second left right v = refl
+
+pair_shown : (o : Option Flight) (second : ℕ) (left right : Meaning) (v : View) → (pair_set o second left right v).shown ≡ v.shown
+pair_shown None second left right v = refl
+pair_shown (Some f) second left right v = flight_shown f.draw f second left right v
 
 module _ {B : Type 0} (p : PlanView) (slots id : ℕ) (me : Me (Option B) View) where
   pub sets_root : (d : ℕ) (told : Meaning) → d < p.moves → MaySetRoot d told me.0
@@ -48,6 +58,7 @@ module _ {B : Type 0} (p : PlanView) (slots id : ℕ) (me : Me (Option B) View) 
           valid = tt;
           kept = subst (λ (x : Draw). Rule p (record a { nodes = put a.nodes d root_node }) homes (set vs id (rooted_view x d told me.0))) (sym is)
               (root_keeps p a homes vs from.rule id me.0 from.at draw (opens_of draw may.opens) told d may.flies may.room);
+          shown = unseen p slots id me a homes vs from (root_set d told me.0) refl;
           tells = refl;
         };
       })
@@ -65,6 +76,7 @@ module _ {B : Type 0} (p : PlanView) (slots id : ℕ) (me : Me (Option B) View) 
           valid = tt;
           kept = ⊎_elim (root a homes vs from)
               (two a homes vs from) may;
+          shown = unseen p slots id me a homes vs from (pair_set me.0.flight q.second left right me.0) (pair_shown me.0.flight q.second left right me.0);
           tells = refl;
         };
       })

@@ -32,12 +32,19 @@ sub_slots d n v = lowered_slots (ltb 0 (count d v.held)) d n v
 pub sub_flight : (d : ℕ) (n : Node) (v : View) → (sub_after d n v).flight ≡ v.flight
 sub_flight d n v = lowered_flight (ltb 0 (count d v.held)) d n v
 
+lowered_shown : (other : Bool) (d : ℕ) (n : Node) (v : View) → (settle_view (lowered other d n v)).shown ≡ v.shown
+lowered_shown true d n v = refl
+lowered_shown false d n v = refl
+
+pub sub_shown : (d : ℕ) (n : Node) (v : View) → (sub_after d n v).shown ≡ v.shown
+sub_shown d n v = lowered_shown (ltb 0 (count d v.held)) d n v
+
 -- the running vertex stays, or it is over and no move is in flight
 keeps_or_none : (over : Bool) (o : Option Running) (f : Option Flight) → f ≡ None → (keep_if (not over) o ≡ o) ⊎ (keep_if (not over) o ≡ None) × (f ≡ None)
 keeps_or_none true o f e = inr (refl, e)
 keeps_or_none false o f e = inl refl
 
-settles : (o : Option Running) (f : Option Flight) (c t : List ℕ) → (keep_if (not (is_over o f c t)) o ≡ o) ⊎ (keep_if (not (is_over o f c t)) o ≡ None)
+pub settles : (o : Option Running) (f : Option Flight) (c t : List ℕ) → (keep_if (not (is_over o f c t)) o ≡ o) ⊎ (keep_if (not (is_over o f c t)) o ≡ None)
     × (f ≡ None)
 settles None f c t = inl refl
 settles (Some r) (Some f) c t = inl refl
@@ -96,6 +103,22 @@ told_rested : {B : Type 0} (me : Me (Option B) View) (o : Option Running) (f : O
 told_rested me (Some r) f = refl
 told_rested me None (Some f) = refl
 told_rested me None None = refl
+
+shown_rested : {B : Type 0} (me : Me (Option B) View) (o : Option Running) (f : Option Flight) → (rested o f me).0.shown ≡ me.0.shown
+shown_rested me (Some r) f = refl
+shown_rested me None (Some f) = refl
+shown_rested me None None = refl
+
+pub shown_rest : {B : Type 0} (me : Me (Option B) View) → (at_rest me).0.shown ≡ me.0.shown
+shown_rest me = shown_rested me me.0.running me.0.flight
+
+ready_rested : {B : Type 0} (me : Me (Option B) View) (o : Option Running) (f : Option Flight) → (rested o f me).0.ready ≡ me.0.ready
+ready_rested me (Some r) f = refl
+ready_rested me None (Some f) = refl
+ready_rested me None None = refl
+
+pub ready_rest : {B : Type 0} (me : Me (Option B) View) → (at_rest me).0.ready ≡ me.0.ready
+ready_rest me = ready_rested me me.0.running me.0.flight
 
 pub told_rest : {B : Type 0} (me : Me (Option B) View) → (at_rest me).0.told ≡ me.0.told
 told_rest me = told_rested me me.0.running me.0.flight

@@ -9,21 +9,23 @@ use lib.ListN.{get_elem?}
 use Rattle.atomic_table.specs.Table.{Me, keeps, takes, Allows}
 use Rattle.spd_words.specs.Plan.{PlanView, vertex_place}
 use Rattle.spd_words.specs.Meaning.{Meaning}
-use Rattle.spd_words.specs.Words.{Vertex, vertex_of, pack_vertex}
+use Rattle.spd_words.specs.Words.{Vertex, VertexFits, vertex_of, pack_vertex}
 use Rattle.spd_words.proofs.Reading.{vertex_read}
 use Rattle.spd_state.specs.Dag.{Dag}
 use Rattle.spd_state.specs.Parts.{Rule, IsInside}
 use Rattle.spd_state.specs.Steps.{stepped, start_word, start_run, start_view}
+use Rattle.spd_state.specs.Shown.{ShownOk}
 use Rattle.spd_state.specs.declared.view.View.{View}
 use Rattle.spd_state.proofs.Loads.{load_keeps}
 use Rattle.spd_state.proofs.Start.{start_keeps}
 use Rattle.spd_rule.specs.Held.{Held}
-use Rattle.spd_rule.specs.Steps.{MayStart, StartsVertex, meaning_in}
-use Rattle.spd_rule.proofs.Glue.{From, allow_vertex}
+use Rattle.spd_rule.specs.Steps.{MayStart, StartsVertex, HasSeen, LateStart, meaning_in}
+use Rattle.spd_state.proofs.Showing.{shown_starts, shown_taken}
+use Rattle.spd_rule.proofs.Glue.{From, allow_vertex, unseen, unseen_by}
 
-module _ {B : Type 0} (means : B → Meaning) (p : PlanView) (slots id : ℕ) (me : Me (Option B) View) where
+module _ {B : Type 0} (p : PlanView) (slots id : ℕ) (me : Me (Option B) View) where
   -- a step that changes the number of steps alone
-  idles : (a : Dag) (homes : List (maybe.Option (Option B))) (vs : List View) → From {B = B} p slots id me a homes vs
+  pub idles : (a : Dag) (homes : List (maybe.Option (Option B))) (vs : List View) → From {B = B} p slots id me a homes vs
       → Rule p a homes (set vs id (stepped me.0))
   idles a homes vs from = load_keeps p a homes vs from.rule id me.0 from.at
       (stepped me.0) record {
@@ -50,6 +52,7 @@ module _ {B : Type 0} (means : B → Meaning) (p : PlanView) (slots id : ℕ) (m
         done = refl;
       } refl (λ e. e)
 
+module _ {B : Type 0} (means : B → Meaning) (p : PlanView) (slots id : ℕ) (me : Me (Option B) View) where
   -- what lies at home in the slot of a ready vertex
   body_there : (a : Dag) (homes : List (maybe.Option (Option B))) (vs : List View) (from : From {B = B} p slots id me a homes vs) (i : ℕ) → i < 2 * p.moves
       → (a.vertices i).state ≡ 2
@@ -59,11 +62,19 @@ module _ {B : Type 0} (means : B → Meaning) (p : PlanView) (slots id : ℕ) (m
       (None, ap (get_elem? homes) e ∙ h.end (omega arith) (omega arith), (λ _. refl), λ n. absurd (n e)))
       (λ n. let b = h.body i low (omega arith) (omega arith) n in (Some b.0, b.1, (λ e. absurd (n e)), λ _. (b.0, refl)))
 
+  -- what the share has seen ready was started by another since
+  late : (a : Dag) (homes : List (maybe.Option (Option B))) (vs : List View) → From {B = B} p slots id me a homes vs → (i seen : ℕ)
+      → VertexFits (a.vertices i) → pack_vertex (a.vertices i) ≢ seen → HasSeen i seen me.0 → (vertex_of (pack_vertex (a.vertices i))).state ≡ 3
+  late a homes vs from i seen fit miss has = let x : Vertex = a.vertices i in
+      let stands : ShownOk p.moves a.vertices has.noted = from.shown id me.0 from.at has.at has.noted has.there in
+      ap (λ (y : Vertex). y.state) (vertex_read x fit)
+      ∙ shown_taken p.moves a.vertices i has.noted stands has.vertex fit.state (λ e. miss (ap pack_vertex e ∙ has.word))
+
   pub starts : (i seen : ℕ) → slots ≡ 2 * p.moves → i < 2 * p.moves → MayStart seen me.0 → 0 < me.0.seats
       → Allows (Held p) slots id me (vertex_place p i) (λ n. either (eqb n seen) (seen + 1) n)
-      (λ n m'. (n ≡ seen → StartsVertex means p i seen me m') × (n ≢ seen → m' ≡ (stepped me.0, me.1)))
+      (λ n m'. (n ≡ seen → StartsVertex means p i seen me m') × (n ≢ seen → LateStart i seen n me m'))
   starts i seen size low may seated = allow_vertex p slots id me i low (λ n. either (eqb n seen) (seen + 1) n)
-      (λ n m'. (n ≡ seen → StartsVertex means p i seen me m') × (n ≢ seen → m' ≡ (stepped me.0, me.1)))
+      (λ n m'. (n ≡ seen → StartsVertex means p i seen me m') × (n ≢ seen → LateStart i seen n me m'))
       (λ a homes vs from fit fits. let x : Vertex = a.vertices i in dite (ℕ_discrete (pack_vertex x) seen)
       (λ hit. let read : x ≡ vertex_of seen = sym (vertex_read x fit) ∙ ap vertex_of hit in let two : x.state ≡ 2 = ap (λ (y : Vertex). y.state) read
       ∙ may.ready in
@@ -81,6 +92,7 @@ module _ {B : Type 0} (means : B → Meaning) (p : PlanView) (slots id : ℕ) (m
           act = takes i slot.0;
           valid = slot.1;
           kept = kept;
+          shown = unseen_by p slots id me a homes vs from i (start_word x) (shown_starts p.moves a.vertices i two) (start_view i x m me.0) refl;
           tells = (
             (λ _. record {
               body = slot.0;
@@ -96,5 +108,12 @@ module _ {B : Type 0} (means : B → Meaning) (p : PlanView) (slots id : ℕ) (m
       })
       (λ miss. inr record {
         stays = ap (λ b. either b (seen + 1) (pack_vertex x)) (ne_eqb (pack_vertex x) seen miss);
-        move = record { view = stepped me.0; act = keeps; valid = tt; kept = idles a homes vs from; tells = ((λ hit. absurd (miss hit)), λ _. refl) };
+        move = record {
+          view = stepped me.0;
+          act = keeps;
+          valid = tt;
+          kept = idles p slots id me a homes vs from;
+          shown = unseen p slots id me a homes vs from (stepped me.0) refl;
+          tells = ((λ hit. absurd (miss hit)), λ _. record { known = refl; taken = late a homes vs from i seen fit miss });
+        };
       }))

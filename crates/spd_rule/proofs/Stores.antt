@@ -9,6 +9,7 @@ use Rattle.spd_words.specs.Meaning.{Meaning}
 use Rattle.spd_words.specs.Words.{Vertex, VertexFits, pack_vertex}
 use Rattle.spd_state.specs.Sums.{put}
 use Rattle.spd_state.specs.Dag.{Dag}
+use Rattle.spd_state.specs.Shown.{AllShown}
 use Rattle.spd_state.specs.Parts.{Rule, FlightsOk, FlightOk, no_vertex}
 use Rattle.spd_state.specs.Stages.{end_view, chain_rest_view, spawn_left_view, last_view, end_vertex, chain_rest_vertex, body_vertex, spawn_vertex}
 use Rattle.spd_state.specs.declared.view.Draw.{Draw}
@@ -29,7 +30,9 @@ use Rattle.spd_rule.specs.Held.{Held}
 use Rattle.spd_rule.specs.Rest.{due, at_rest}
 use Rattle.spd_rule.specs.Moves.{MaySetVertex, the_end, the_rest, the_body, the_left, the_right, StoresEnd, StoresRest, StoresBody, StoresLeft, StoresRight}
 use Rattle.spd_rule.specs.Moves.{flight_with, vertex_set, stored_in, less_first}
-use Rattle.spd_rule.proofs.Glue.{From, allow_vertex}
+use Rattle.spd_state.proofs.Showing.{shown_beside}
+use Rattle.spd_rule.proofs.Glue.{From, allow_vertex, unseen_by}
+use Rattle.spd_rule.proofs.Settled.{shown_rest}
 use Rattle.spd_rule.proofs.Resting.{HomeBound, bound_by, running_started, rests}
 
 closing_of : (draw : Draw) → draw ≢ Spawn → Closing draw
@@ -62,11 +65,13 @@ module _ {B : Type 0} (means : B → Meaning) (p : PlanView) (slots id : ℕ) (m
       pub act : Act (Option B)
       pub valid : Valid homes me.1 act
       pub kept : Rule p b (homes_after homes me.1 act) (set vs id view)
+      pub shown : AllShown p.moves b.vertices (set vs id view)
       pub tells : Said (view, carried_after me.1 act)
 
     ends : (y : Option B) (w : View) → me.1 ≡ (i, y) ∷ rest me.1 → Rule p b (set homes i (some y)) (set vs id w) → w ≡ (vertex_set me).0 → w.slots ≡ left
+        → w.shown ≡ me.0.shown → a.vertices i ≡ no_vertex
         → (w.running ≡ None → w.flight ≡ None → HomeBound p.moves b.vertices (rest me.1)) → Ends
-    ends y w slot kept is lasts bound =
+    ends y w slot kept is lasts seen blank bound =
         let homes' : List (maybe.Option (Option B)) = homes_after homes me.1 gives in
         let put_home : homes' ≡ set homes i (some y) = ap (λ l. homes_after homes l gives) slot in
         let deep : length homes' ≡ 2 * p.moves = ap length put_home ∙ (length-set homes i (some y) ∙ (from.deep ∙ size)) in
@@ -77,6 +82,8 @@ module _ {B : Type 0} (means : B → Meaning) (p : PlanView) (slots id : ℕ) (m
           act = chain gives r.act;
           valid = (tt, r.valid);
           kept = r.kept;
+          shown = unseen_by p slots id me a homes vs from i x (shown_beside p.moves a.vertices i x
+              (let z : (a.vertices i).state ≡ 0 = ap (λ (u : Vertex). u.state) blank in omega arith)) v (shown_rest (w, rest me.1) ∙ seen);
           tells = (
             (λ j. (v, sym r.carried j)) ∙ (λ j. at_rest (is j, rest me.1)),
             ready_few p b (homes_after homes' (rest me.1) r.act)
@@ -116,14 +123,16 @@ module _ {B : Type 0} (means : B → Meaning) (p : PlanView) (slots id : ℕ) (m
           subst (λ (j : ℕ). Ends j x a homes vs from) (sym h.vertex) (subst (λ (z : Vertex). Ends 1 z a homes vs from) (sym h.word)
           (ends 1 end_vertex a homes vs from None (end_view left me.0) s (end_keeps p a homes vs from.rule id me.0 from.at h.flies left
           (in_front 1 None s) deep)
-          (sym (λ j. stored_in (h.flies j) me.0.running (less 1 None s j) me.0)) refl (λ none free. absurd (cc))))
+          (sym (λ j. stored_in (h.flies j) me.0.running (less 1 None s j) me.0)) refl refl
+          ((flight_ok 1 end_vertex a homes vs from (flight_with Make 0 0 2) h.flies).rest (omega arith)) (λ none free. absurd (cc))))
 
       rest_kind : StoresRest means i x me → Ends i x a homes vs from
       rest_kind h = let k : ℕ = 2 * h.number + 1 in let y : Option B = Some h.body in let s = slot_at i k y h.vertex h.slot in
           subst (λ (j : ℕ). Ends j x a homes vs from) (sym h.vertex) (subst (λ (z : Vertex). Ends k z a homes vs from) (sym h.word)
           (ends k (chain_rest_vertex h.runs) a homes vs from y (chain_rest_view h.runs h.number left me.0) s
           (chain_rest_keeps p a homes vs from.rule id me.0 from.at h.runs h.running h.right h.number h.flies left (in_front k y s) h.body deep)
-          (sym (λ j. stored_in (h.flies j) (h.running j) (less k y s j) me.0)) refl (λ none free. absurd (cc))))
+          (sym (λ j. stored_in (h.flies j) (h.running j) (less k y s j) me.0)) refl refl
+          ((flight_ok k (chain_rest_vertex h.runs) a homes vs from (flight_with Chain h.number h.number 2) h.flies).rest (omega arith)) (λ none free. absurd (cc))))
 
       body_kind : StoresBody means i x me → Ends i x a homes vs from
       body_kind h = let d : ℕ = h.number in let k : ℕ = 2 * d in let y : Option B = Some h.body in let s = slot_at i k y h.vertex h.slot in
@@ -131,7 +140,8 @@ module _ {B : Type 0} (means : B → Meaning) (p : PlanView) (slots id : ℕ) (m
           subst (λ (j : ℕ). Ends j x a homes vs from) (sym h.vertex) (subst (λ (z : Vertex). Ends k z a homes vs from) (sym h.word)
           (ends k (body_vertex d) a homes vs from y (last_view left me.0) s
           (last_body_keeps p a homes vs from.rule id me.0 from.at h.draw kind d h.flies left (in_front k y s) h.body deep)
-          (last_is h.draw d d me.0.running left ∙ sym (λ j. stored_in (h.flies j) me.0.running (less k y s j) me.0)) refl
+          (last_is h.draw d d me.0.running left ∙ sym (λ j. stored_in (h.flies j) me.0.running (less k y s j) me.0)) refl refl
+          ((flight_ok k (body_vertex d) a homes vs from (flight_with h.draw d d 3) h.flies).body (let z = kind.body in omega arith))
           (λ none free. last_bound k (body_vertex d) a homes vs from h.draw d d y s h.flies
           ((flight_ok k (body_vertex d) a homes vs from (flight_with h.draw d d 3) h.flies).body (let z = kind.body in omega arith)))))
 
@@ -141,7 +151,8 @@ module _ {B : Type 0} (means : B → Meaning) (p : PlanView) (slots id : ℕ) (m
           (ends k (spawn_vertex d h.finish 0 h.inc) a homes vs from y (spawn_left_view d h.finish left me.0) s
           (spawn_left_keeps p a homes vs from.rule id me.0 from.at d h.finish h.inc h.flies
           (known_under p a homes vs from.rule id me.0 from.at h.inc h.finish h.known) left (in_front k y s) h.body deep)
-          (sym (λ j. stored_in (h.flies j) me.0.running (less k y s j) me.0)) refl (λ none free. absurd (cc))))
+          (sym (λ j. stored_in (h.flies j) me.0.running (less k y s j) me.0)) refl refl
+          ((flight_ok k (spawn_vertex d h.finish 0 h.inc) a homes vs from (flight_with Spawn d h.finish 2) h.flies).body (omega arith)) (λ none free. absurd (cc))))
 
       right_kind : StoresRight means i x me → Ends i x a homes vs from
       right_kind h = let d : ℕ = h.number in let k : ℕ = 2 * d + 1 in let y : Option B = Some h.body in let s = slot_at i k y h.vertex h.slot in
@@ -149,7 +160,8 @@ module _ {B : Type 0} (means : B → Meaning) (p : PlanView) (slots id : ℕ) (m
           (ends k (spawn_vertex d h.finish 1 h.inc) a homes vs from y (last_view left me.0) s
           (spawn_right_keeps p a homes vs from.rule id me.0 from.at d h.finish h.inc h.flies
           (known_under p a homes vs from.rule id me.0 from.at h.inc h.finish h.known) left (in_front k y s) h.body deep)
-          (last_is Spawn d h.finish me.0.running left ∙ sym (λ j. stored_in (h.flies j) me.0.running (less k y s j) me.0)) refl
+          (last_is Spawn d h.finish me.0.running left ∙ sym (λ j. stored_in (h.flies j) me.0.running (less k y s j) me.0)) refl refl
+          ((flight_ok k (spawn_vertex d h.finish 1 h.inc) a homes vs from (flight_with Spawn d h.finish 3) h.flies).rest (omega arith))
           (λ none free. last_bound k (spawn_vertex d h.finish 1 h.inc) a homes vs from Spawn d h.finish y s h.flies
           ((flight_ok k (spawn_vertex d h.finish 1 h.inc) a homes vs from (flight_with Spawn d h.finish 3) h.flies).rest (omega arith)))))
 
@@ -164,4 +176,4 @@ module _ {B : Type 0} (means : B → Meaning) (p : PlanView) (slots id : ℕ) (m
       → Allows (Held p) slots id me (vertex_place p i) (λ _. pack_vertex x) (λ _ m'. (m' ≡ at_rest (vertex_set me)) × (m'.0.ready ≤ 2 * p.moves))
   sets_vertex i x low fit may = allow_vertex p slots id me i low (λ _. pack_vertex x) (λ _ m'. (m' ≡ at_rest (vertex_set me)) × (m'.0.ready ≤ 2 * p.moves))
       (λ a homes vs from _ fits. let e = kinds a homes vs from i x may in
-      inl record { new = x; fits = fit; packs = refl; move = record { view = e.view; act = e.act; valid = e.valid; kept = e.kept; tells = e.tells } })
+      inl record { new = x; fits = fit; packs = refl; move = record { view = e.view; act = e.act; valid = e.valid; kept = e.kept; shown = e.shown; tells = e.tells } })

@@ -8,13 +8,16 @@ use Rattle.spd_words.specs.declared.scheme.Scheme.TheVariants.{Flat}
 use Rattle.spd_state.specs.Dag.{Dag, IsWritten}
 use Rattle.spd_state.specs.Parts.{Rule}
 use Rattle.spd_state.specs.Seats.{IsEmpty}
+use Rattle.spd_state.specs.Shown.{AllShown}
 use Rattle.spd_state.specs.declared.view.View.{View}
 
--- The words are typed words, which with the bodies at home and the views keep each part of the rule.
+-- The words are typed words, which with the bodies at home and the views keep each part of the rule; and each vertex
+-- that a share has seen ready stands as it was seen, or was started.
 pub record Held {B : Type 0} (p : PlanView) (s : State (Option B) View) : Type 0 where
   pub dag : Dag
   pub written : IsWritten p dag s.words
   pub kept : Rule p dag s.homes s.views
+  pub shown : AllShown p.moves dag.vertices s.views
 
 -- A share that had the view and the slots `me` found a word at this place and left another there, and had `me'`
 -- afterwards. The rule held just before the step and just after it, and that word and that view alone changed.

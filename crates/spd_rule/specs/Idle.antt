@@ -44,6 +44,15 @@ pub record DepartsFrom (d : ℕ) (last : Bool) (old new : Beside) : Type 0 where
   pub flight : new.flight ≡ old.flight
   pub spare : new.spare ≡ old.spare
 
+-- A finish is told no more.
+pub record WakesBeside (old new : Beside) : Type 0 where
+  pub told : new.told + 1 ≡ old.told
+  pub running : IsSettled old.running old.flight old.claimed new.told new.running
+  pub units : new.units ≡ old.units
+  pub claimed : new.claimed ≡ old.claimed
+  pub flight : new.flight ≡ old.flight
+  pub spare : new.spare ≡ old.spare
+
 -- the move in flight at this stage
 abbrev pub flight_at : ℕ → Option Flight → Option Flight
 flight_at stage None = None

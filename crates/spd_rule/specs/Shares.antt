@@ -3,10 +3,9 @@ use Rattle.std.specs.Prelude.{◌≡◌, ◌≢◌, ◌∷◌, ◌+◌, ◌-◌,
 use Rattle.atomic_table.specs.Table.{Me, rest}
 use Rattle.spd_words.specs.Plan.{PlanView, node_place, pair_place, vertex_place}
 use Rattle.spd_words.specs.Meaning.{Meaning}
-use Rattle.spd_state.specs.Steps.{stepped}
 use Rattle.spd_state.specs.declared.view.Draw.{Draw}
 use Rattle.spd_state.specs.declared.view.View.{View}
-use Rattle.spd_rule.specs.Steps.{pair_in, StartsVertex, DrawsMove}
+use Rattle.spd_rule.specs.Steps.{pair_in, StartsVertex, LateStart, DrawsMove}
 use Rattle.spd_words.specs.Words.{Pair, Vertex, pack_pair, pack_vertex}
 use Rattle.spd_rule.specs.Moves.{MaySetVertex, pair_set}
 use Rattle.spd_rule.specs.Held.{StepUnderRule}
@@ -35,6 +34,10 @@ IsOf f s = s.seat.table_id ≡ f.table.shared.table_id
 abbrev pub IsSame : {B : Type 0} → Share B → Share B → Type 0
 IsSame s t = (t.seat.table_id ≡ s.seat.table_id) × (t.seat.id ≡ s.seat.id)
 
+-- A load of this share found a word at this place, under the rule.
+abbrev pub LoadsUnderRule : {B : Type 0} → Field B → ℕ → ℕ → Share B → Share B → Type 0
+LoadsUnderRule f place found s t = StepUnderRule f.plan place found found s.seat.me t.seat.me
+
 -- A fetch of this share found a word at this place and added k to it, under the rule.
 abbrev pub AddsUnderRule : {B : Type 0} → Field B → ℕ → ℕ → ℕ → Share B → Share B → Type 0
 AddsUnderRule f place k found s t = StepUnderRule f.plan place found ((found + k) % 2 ^ 64) s.seat.me t.seat.me
@@ -57,10 +60,10 @@ abbrev pub ExchangesUnderRule : {B : Type 0} → Field B → ℕ → ℕ → ℕ
 ExchangesUnderRule f place seen next (Ok w) s t = StepUnderRule f.plan place w next s.seat.me t.seat.me
 ExchangesUnderRule f place seen next (Err w) s t = StepUnderRule f.plan place w w s.seat.me t.seat.me
 
--- Where the word was the one that was seen the share runs the vertex, and else it has taken a step.
+-- Where the word was the one that was seen the share runs the vertex, and else it has taken a step, and comes too late.
 abbrev pub StartAnswer : {B : Type 0} → (B → Meaning) → Field B → ℕ → ℕ → Result ℕ ℕ → Share B → Share B → Type 0
 StartAnswer means f v seen (Ok w) s t = (w ≡ seen) × StartsVertex means f.plan v seen s.seat.me t.seat.me
-StartAnswer means f v seen (Err w) s t = (w ≢ seen) × (t.seat.me ≡ (stepped s.seat.me.0, s.seat.me.1))
+StartAnswer means f v seen (Err w) s t = (w ≢ seen) × LateStart v seen w s.seat.me t.seat.me
 
 -- where the words of a root and of a vertex stand
 abbrev pub root_place : {B : Type 0} → Field B → ℕ → ℕ

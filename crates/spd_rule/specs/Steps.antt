@@ -1,8 +1,10 @@
 -- When a share may take a step, and what a step tells beside the view after it.
 use Rattle.std.specs.Prelude.{◌≡◌, ◌≢◌, ◌⊎◌, ◌+◌, ◌<◌, ◌≤◌, ◌∷◌, ℕ, Option, Some, None}
+use mathlib.Core.Option.{some}
+use lib.ListN.{get_elem?}
 use Rattle.atomic_table.specs.Table.{Me}
 use Rattle.spd_words.specs.Plan.{PlanView}
-use Rattle.spd_words.specs.Words.{Pair, vertex_of}
+use Rattle.spd_words.specs.Words.{Pair, pack_vertex, vertex_of}
 use Rattle.spd_words.specs.Meaning.{Meaning, IsLawfulTotal, empty}
 use Rattle.spd_state.specs.Sums.{count}
 use Rattle.spd_state.specs.Dag.{load_of, right_in, busy, tree_right, claimed_at}
@@ -11,11 +13,15 @@ use Rattle.spd_state.specs.Stages.{MayDraw, drawn_view, full_view, first_slot, s
 use Rattle.spd_state.specs.declared.view.Flight.{Flight}
 use Rattle.spd_state.specs.Promises.{promised}
 use Rattle.spd_state.specs.Seats.{joined_view}
-use Rattle.spd_state.specs.Steps.{claim_after, start_run, start_view}
+use Rattle.spd_state.specs.Shown.{shown_word, see_after}
+use Rattle.spd_state.specs.Steps.{stepped, claim_after, start_run, start_view, wake_after}
 use Rattle.spd_state.specs.declared.view.Draw.{Draw}
 use Rattle.spd_state.specs.declared.view.Draw.TheVariants.{Make, Spawn}
 use Rattle.spd_state.specs.declared.view.Running.{Running}
+use Rattle.spd_state.specs.declared.view.Shown.{Shown}
 use Rattle.spd_state.specs.declared.view.View.{View}
+use Rattle.spd_debts.specs.Payments.{sees_view}
+use Rattle.spd_rule.specs.Rest.{at_rest}
 
 -- the number and the pair of the running vertex
 abbrev pub vertex_in : Option Running → Option ℕ
@@ -103,6 +109,19 @@ pub record MayStart (seen : ℕ) (v : View) : Type 0 where
   pub running : v.running ≡ None
   pub flight : v.flight ≡ None
 
+-- It has seen the vertex i ready, in this word.
+pub record HasSeen (i seen : ℕ) (v : View) : Type 0 where
+  pub at : ℕ
+  pub noted : Shown
+  pub there : get_elem? v.shown at ≡ some noted
+  pub vertex : noted.vertex ≡ i
+  pub word : pack_vertex (shown_word 2 noted) ≡ seen
+
+-- The word of the vertex i was found to be n, and not as it was seen. Where it was seen ready, another has started it.
+pub record LateStart {B : Type 0} (i seen n : ℕ) (me me' : Me (Option B) View) : Type 0 where
+  pub known : me' ≡ (stepped me.0, me.1)
+  pub taken : HasSeen i seen me.0 → (vertex_of n).state ≡ 3
+
 -- what lies in the slot of a vertex means, if a body lies there
 abbrev pub meaning_in : {B : Type 0} → (B → Meaning) → Option B → Option Meaning
 meaning_in means None = None
@@ -117,6 +136,29 @@ pub record StartsVertex {B : Type 0} (means : B → Meaning) (p : PlanView) (i s
   pub end : i ≡ 1 → body ≡ None
   pub other : i ≢ 1 → (b : B) × (body ≡ Some b)
   pub inside : IsInside p (start_run i (vertex_of seen))
+
+-- ---- `see_moves`, `see_vertex` and `wake_vertex`
+
+-- It has seen the moves full. A running share that isn't wild owes a move.
+pub record MaySeeMoves (v : View) : Type 0 where
+  pub marked : 0 < v.full_draws
+  pub pays : right_in v.running ≡ 1 → v.wild ≡ 0 → 0 < v.owes.moves
+
+-- one move less is owed
+abbrev pub sees_known : {B : Type 0} → Me (Option B) View → Me (Option B) View
+sees_known me = (sees_view me.0, me.1)
+
+-- the word of the vertex i was n
+abbrev pub see_known : {B : Type 0} → ℕ → ℕ → Me (Option B) View → Me (Option B) View
+see_known i n me = (see_after i (vertex_of n) me.0, me.1)
+
+-- It is told the finish f.
+abbrev pub IsTold : ℕ → View → Type 0
+IsTold f v = 0 < count f v.told
+
+-- the waiting vertex of the finish f is woken
+abbrev pub wake_known : {B : Type 0} → ℕ → Me (Option B) View → Me (Option B) View
+wake_known f me = at_rest (wake_after f me.0, me.1)
 
 -- ---- `join`
 

@@ -8,7 +8,7 @@ ghost use Rattle.spd_rule.specs.Steps.{drawn_flight};
 ghost use Rattle.spd_state.specs.declared.view.Flight.{Flight};
 ghost use Rattle.spd_rule.specs.Moves.{after_first, less_first};
 ghost use Rattle.spd_rule.specs.Rest.{due, due_at};
-ghost use Rattle.spd_rule.specs.Idle.{IsNewBeside, StoresFirst, StoresLast, flight_at, flies_spawn, PairsRoot, PairsUnits, DrawsBeside, HoldsOneMore, DepartsFrom, TakesUnit, IsSettled};
+ghost use Rattle.spd_rule.specs.Idle.{IsNewBeside, StoresFirst, StoresLast, flight_at, flies_spawn, PairsRoot, PairsUnits, DrawsBeside, HoldsOneMore, DepartsFrom, WakesBeside, TakesUnit, IsSettled};
 
 use arrayvec::ArrayVec;
 use spd_state::{Draw, Flight, Running};
@@ -147,6 +147,15 @@ impl Beside {
         let taken = take_unit(&mut self.units, d);
         self.claimed = without_unit(self.claimed, taken);
         self.told = with_told(self.told, last);
+        self.running = settled(self.running, self.flight, self.claimed, self.told);
+    }
+
+    /// A finish is told no more. A share whose vertex is over runs nothing.
+    pub fn wake(&mut self)
+        requires { 0 < self.old.told }
+        ensures { WakesBeside self.old self.new }
+    {
+        self.told -= 1;
         self.running = settled(self.running, self.flight, self.claimed, self.told);
     }
 }

@@ -12,6 +12,7 @@
 mod beside;
 mod closed;
 mod field;
+mod looks;
 mod moves;
 mod opening;
 mod reading;
@@ -20,9 +21,12 @@ mod seats;
 mod steps;
 mod table;
 mod told;
+mod wakes;
 
 pub use closed::Closed;
 pub use field::{Field, Share};
+pub use looks::{see_moves, see_vertex};
 pub use moves::{draw_move, set_pair, set_root, set_vertex};
 pub use steps::{add_root, claim, start_vertex, sub_root};
 pub use told::Told;
+pub use wakes::wake_vertex;
