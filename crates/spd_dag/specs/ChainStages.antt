@@ -7,7 +7,7 @@ use Rattle.spd_words.specs.declared.finish_kind.FinishKind.{FinishKind}
 use Rattle.spd_state.specs.Stages.{root_pair, chain_rest_vertex, body_vertex}
 use Rattle.spd_state.specs.declared.view.Running.{Running}
 use Rattle.spd_rule.specs.Moves.{pair_kind}
-use Rattle.spd_dag.specs.Origins.{draw_writes}
+use Rattle.spd_dag.specs.Draws.{draw_writes}
 use Rattle.spd_dag.specs.declared.chain.ChainStage.{ChainStage}
 use Rattle.spd_dag.specs.declared.chain.ChainStage.TheVariants as stage
 

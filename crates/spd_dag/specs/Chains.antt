@@ -17,7 +17,8 @@ use Rattle.spd_rule.specs.declared.field.Field.{Field}
 use Rattle.spd_rule.specs.declared.field.Share.{Share}
 use Rattle.spd_dag.specs.Acts.{MayChain}
 use Rattle.spd_dag.specs.Ends.{IsOver}
-use Rattle.spd_dag.specs.Origins.{Origin, HasDrawn, unmoved_known}
+use Rattle.spd_dag.specs.Origins.{Origin, HasDrawn}
+use Rattle.spd_dag.specs.Draws.{unmoved_known}
 use Rattle.spd_dag.specs.ChainStages.{AfterChain, chain_goes, chain_ends, chain_fills, chain_next, chain_place, chain_writes, chain_left}
 use Rattle.spd_dag.specs.declared.chain.ChainCall.{ChainCall}
 use Rattle.spd_dag.specs.declared.chain.ChainStage.{ChainStage}

@@ -5,6 +5,7 @@
 #![tactic(auto)]
 
 mod chain;
+mod drawing;
 mod telling;
 
 pub use chain::{ChainCall, ChainTurn};
