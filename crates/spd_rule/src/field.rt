@@ -2,6 +2,7 @@
 
 ghost use Rattle.std.specs.Prelude.{◌≡◌, ℕ, ◌*◌};
 ghost use Rattle.spd_words.specs.Plan.{IsPlan, plan_words};
+ghost use Rattle.spd_words.specs.declared.scheme.Scheme.TheVariants.{Flat};
 ghost use Rattle.spd_rule.specs.Rest.{due};
 ghost use Rattle.spd_rule.specs.Beside.{Mirrors};
 
@@ -18,6 +19,7 @@ pub struct Field<B: Body> {
     pub(crate) table: Table<Option<B>, View, Plan, DagRule, Global>,
     pub(crate) plan: Plan,
     ghost lawful: { IsPlan plan },
+    pub ghost flat: { plan.scheme ≡ Flat },
     ghost keyed: { table.shared.key ≡ plan },
     ghost wide: { table.shared.table_id.words ≡ plan_words plan },
     ghost deep: { table.shared.table_id.slots ≡ 2 * plan.moves },
