@@ -1,5 +1,5 @@
 -- A turn of a chain that goes on: the facts of its step make the turn.
-use Rattle.std.proofs.Common.{◌≡◌, ℕ, ◌<◌, ◌+◌, ◌*◌, [], Option, refl, sym, ap, ◌∙◌, subst, Some}
+use Rattle.std.proofs.Common.{◌≡◌, ℕ, ◌<◌, ◌≤◌, ◌+◌, ◌*◌, [], Option, refl, sym, ap, ◌∙◌, subst, Some}
 use Rattle.atomic_table.specs.Table.{Me}
 use Rattle.spd_words.specs.Plan.{PlanView}
 use Rattle.spd_words.specs.Meaning.{Meaning, BodyView}
@@ -7,9 +7,10 @@ use Rattle.spd_words.specs.declared.finish_kind.FinishKind.{FinishKind}
 use Rattle.spd_state.specs.declared.view.View.{View}
 use Rattle.spd_rule.specs.Held.{StepUnderRule}
 use Rattle.spd_dag.specs.Acts.{MayChain}
+use Rattle.spd_dag.specs.Draws.{unmoved_known}
 use Rattle.spd_dag.specs.Ends.{IsOver}
 use Rattle.spd_dag.specs.Origins.{Origin, HasDrawn}
-use Rattle.spd_dag.specs.ChainStages.{AfterChain, chain_goes, chain_ends, chain_next, chain_place, chain_writes, chain_left}
+use Rattle.spd_dag.specs.ChainStages.{AfterChain, chain_goes, chain_ends, chain_fills, chain_next, chain_place, chain_writes, chain_left}
 use Rattle.spd_dag.specs.Chains.{chain_known, ChainHas, ChainDrew, ChainGoes, ChainTurned, ChainAnswers}
 use Rattle.spd_dag.specs.declared.chain.ChainCall.{ChainCall}
 use Rattle.spd_dag.specs.declared.chain.ChainStage.{ChainStage}
@@ -58,4 +59,17 @@ module _ {B : Type 0} (view : B → BodyView) (p : PlanView) (o : Origin B) (old
     table = subst (λ (t : ChainStage). ChainAnswers {B = B} (chain_next p.moves t found) new.stage (turn.Done (2 * d) (2 * d + 1))) (sym at)
         (subst (λ (a : AfterChain). ChainAnswers {B = B} a new.stage (turn.Done (2 * d) (2 * d + 1))) (sym next) refl);
     comes = (refl, low, over.0, over.1);
+  }
+
+  -- the turn that finds no move left
+  pub chain_full : (new : ChainCall B) (known' : Me (Option B) View) (n : ℕ) (body rest : B)
+      → StepUnderRule p (chain_place p s) n (chain_writes old.kind o.runs o.known.0.full_draws s n) known known'
+      → chain_next p.moves s n ≡ chain_fills n → p.moves ≤ n → body ≡ o.body → rest ≡ o.rest → known' ≡ unmoved_known o.known
+      → ChainTurned view p o old new known known' (turn.Full n body rest)
+  chain_full new known' n body rest step next least is_body is_rest is = record {
+    found = n;
+    step = subst (λ (t : ChainStage). StepUnderRule p (chain_place p t) n (chain_writes old.kind o.runs o.known.0.full_draws t n) known known') (sym at) step;
+    table = subst (λ (t : ChainStage). ChainAnswers {B = B} (chain_next p.moves t n) new.stage (turn.Full n body rest)) (sym at)
+        (subst (λ (a : AfterChain). ChainAnswers {B = B} a new.stage (turn.Full n body rest)) (sym next) (body, rest, refl));
+    comes = (least, is_body, is_rest, is);
   }

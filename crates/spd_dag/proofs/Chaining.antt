@@ -7,16 +7,19 @@ use Rattle.spd_words.specs.Meaning.{Meaning, BodyView}
 use Rattle.spd_words.specs.declared.finish_kind.FinishKind.{FinishKind}
 use Rattle.spd_state.specs.Stages.{chain_rest_vertex, body_vertex}
 use Rattle.spd_state.specs.declared.view.Draw.{Draw}
-use Rattle.spd_state.specs.declared.view.Draw.TheVariants.{Chain, Spawn}
+use Rattle.spd_state.specs.declared.view.Draw.TheVariants.{Make, Chain, Spawn}
 use Rattle.spd_state.specs.declared.view.View.{View}
 use Rattle.spd_rule.specs.Nobody.{nobody}
 use Rattle.spd_rule.specs.Rest.{at_rest}
-use Rattle.spd_rule.specs.Steps.{MayDrawMove}
 use Rattle.spd_rule.specs.Moves.{MaySetRoot, MaySetPair, MaySetVertex, the_rest, the_body, fresh_pair, pair_kind, vertex_set, stored_in, less_first}
 use Rattle.spd_dag.specs.Acts.{MayChain}
 use Rattle.spd_dag.specs.Ends.{IsOver, over_view}
 use Rattle.spd_dag.specs.Origins.{Origin, HasDrawn}
+use Rattle.spd_dag.specs.Draws.{MayDrawOrSee}
 use Rattle.spd_dag.specs.Chains.{chain_drawn, chain_opened, chain_handed, chain_waits}
+
+no_make : {A : Type 0} → Chain ≡ Make → A
+no_make e = cc
 
 chain_opens : {A : Type 0} → Chain ≡ Spawn → A
 chain_opens e = cc
@@ -29,10 +32,10 @@ module _ {B : Type 0} (view : B → BodyView) (o : Origin B) (kind : FinishKind)
   moves_owed : o.known.0.wild ≡ 0 → o.known.0.owes.moves ≡ (means o.body).promise.moves + (means o.rest).promise.moves + 1
   moves_owed w = ap (λ q. q.moves) (may.books w).owed
 
-  pub chain_may_draw : o.known.0.full_draws ≡ 0 → MayDrawMove Chain nobody o.known.0
-  chain_may_draw none = record {
+  pub chain_may_draw : MayDrawOrSee Chain o.known.0
+  chain_may_draw = record {
+    runs = λ e. no_make e;
     flight = may.acts.flight;
-    unmarked = none;
     maker = (o.runs, may.acts.running, may.acts.right);
     free = may.acts.free;
     pays = λ w. let e = moves_owed w in omega arith;

@@ -4,3 +4,4 @@
 pub mod Seen
 pub mod Chaining
 pub mod ChainTurns
+pub mod Signalling

@@ -4,3 +4,5 @@ pub mod Origins
 pub mod Draws
 pub mod ChainStages
 pub mod Chains
+pub mod SignalStages
+pub mod Signals

@@ -4,8 +4,9 @@ ghost use Rattle.std.specs.Prelude.{◌≡◌};
 ghost use Rattle.spd_rule.specs.Moves.{pair_kind};
 ghost use Rattle.spd_rule.specs.Shares.{IsOf, IsSame};
 
+use crate::drawing::draw_or_see;
 use crate::telling::set_root_of;
-use spd_rule::{Field, Share, draw_move, set_pair, set_vertex};
+use spd_rule::{Field, Share, set_pair, set_vertex};
 use spd_state::Draw;
 use spd_words::{Body, FinishKind};
 use std::marker::Brand;
@@ -58,6 +59,44 @@ impl<B: Body> ChainCall<B> {
             rest: Some(rest),
             stage: ChainStage::Draw,
         }
+    }
+
+    /// Takes the next step: at most five turns come, of which each makes one access to one word.
+    pub fn turn(&mut self, field: &Field<B>, share: &mut Share<B>) -> ChainTurn<B>
+        requires of { IsOf field.now share.old }
+        requires goes { ChainMayGo B.view field.now self.old share.old }
+        ensures same { IsSame share.old share.new }
+        ensures turned { ChainPlays B.view field.now self.old self.new share.old share.new result }
+    {
+        match self.stage {
+            ChainStage::Draw => self.draw(field, share),
+            ChainStage::Root(d) => self.open(field, share, d),
+            ChainStage::Pair(d) => self.hand(field, share, d),
+            ChainStage::Rest(d) => self.store_rest(field, share, d),
+            ChainStage::Body(d) => self.store_body(field, share, d),
+        }
+    }
+
+    /// Draws the move. Where none is left, the bodies go back.
+    fn draw(&mut self, field: &Field<B>, share: &mut Share<B>) -> ChainTurn<B>
+        requires of { IsOf field.now share.old }
+        requires stage { self.old.stage ≡ stage.Draw }
+        requires goes { ChainMayGo B.view field.now self.old share.old }
+        ensures same { IsSame share.old share.new }
+        ensures turned { ChainPlays B.view field.now self.old self.new share.old share.new result }
+    {
+        let drawn = draw_or_see(field, share, Draw::Chain);
+        if drawn < u64::from(field.plan().moves()) {
+            self.stage = ChainStage::Root(drawn as u32);
+            return ChainTurn::More;
+        }
+        let Some(body) = self.body.take() else {
+            unreachable!()
+        };
+        let Some(rest) = self.rest.take() else {
+            unreachable!()
+        };
+        ChainTurn::Full { drawn, body, rest }
     }
 
     /// Opens the finish d, whose root has one unit.

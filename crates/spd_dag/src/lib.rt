@@ -6,6 +6,8 @@
 
 mod chain;
 mod drawing;
+mod signal;
 mod telling;
 
 pub use chain::{ChainCall, ChainTurn};
+pub use signal::{SignalCall, SignalTurn};
