@@ -39,6 +39,10 @@ pub record MayDrawOrSee (draw : Draw) (v : View) : Type 0 where
 abbrev pub FindsMove : {B : Type 0} → Draw → ℕ → Share B → Share B → Type 0
 FindsMove draw n s t = t.seat.me ≡ drawn_known draw n nobody s.seat.me
 
+-- No move was left.
+abbrev pub FindsNone : {B : Type 0} → Share B → Share B → Type 0
+FindsNone s t = t.seat.me ≡ unmoved_known s.seat.me
+
 -- The draw found this number of moves, under the rule.
 abbrev pub DrawnUnderRule : {B : Type 0} → Field B → ℕ → Share B → Share B → Type 0
 DrawnUnderRule f found s t = StepUnderRule f.plan moves_place found (draw_writes s.seat.me.0.full_draws found) s.seat.me t.seat.me

@@ -6,3 +6,6 @@ pub mod ChainStages
 pub mod Chains
 pub mod SignalStages
 pub mod Signals
+pub mod SpawnStages
+pub mod Spawns
+pub mod Makes

@@ -85,7 +85,7 @@ SignalEnds p r before after (Some w) = (w ≡ 2 * r.finish + 1) × (w < 2 * p.mo
 
 abbrev pub SignalComes : {B : Type 0} → PlanView → SignalOrigin → SignalCall → SignalCall → Me (Option B) View
     → SignalTurn → Type 0
-SignalComes p o old new known turn.More = SignalGoes p o new known × (signal_left new.stage < signal_left old.stage)
+SignalComes p o old new known turn.More = SignalGoes p o new known.0 × (signal_left new.stage < signal_left old.stage)
 SignalComes p o old new known (turn.Done woke) = SignalEnds p o.runs o.before known.0 woke × (known.1 ≡ [])
 
 -- A turn of a call that began at o took one step, the one of its stage, under the rule, and answered by the table.

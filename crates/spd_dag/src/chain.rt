@@ -1,10 +1,10 @@
 // A chain: the running vertex becomes a finish's first vertex and the vertex that waits for it.
 
 ghost use Rattle.std.specs.Prelude.{◌≡◌};
-ghost use Rattle.spd_rule.specs.Moves.{pair_kind};
 ghost use Rattle.spd_rule.specs.Shares.{IsOf, IsSame};
 
 use crate::drawing::draw_or_see;
+use crate::kind::kind_number;
 use crate::telling::set_root_of;
 use spd_rule::{Field, Share, set_pair, set_vertex};
 use spd_state::Draw;
@@ -160,17 +160,5 @@ impl<B: Body> ChainCall<B> {
             body: 2 * d,
             rest: 2 * d + 1,
         }
-    }
-}
-
-/// The number of a kind of finish in the word of a pair.
-fn kind_number(kind: FinishKind) -> u32
-    ensures { result ≡ pair_kind kind }
-{
-    match kind {
-        FinishKind::Plain => 0,
-        FinishKind::Sum => 1,
-        FinishKind::Least => 2,
-        FinishKind::Greatest => 3,
     }
 }

@@ -6,8 +6,14 @@
 
 mod chain;
 mod drawing;
+mod handle;
+mod kind;
+mod making;
 mod signal;
+mod spawn;
 mod telling;
 
 pub use chain::{ChainCall, ChainTurn};
+pub use making::make;
 pub use signal::{SignalCall, SignalTurn};
+pub use spawn::{SpawnCall, SpawnTurn};

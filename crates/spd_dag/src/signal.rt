@@ -1,12 +1,12 @@
 // A signal: the running vertex ends, and departs from the counter of its finish.
 
-ghost use Rattle.std.specs.Prelude.{◌≡◌, ◌<◌};
-ghost use Rattle.spd_words.specs.Words.{pair_of};
-ghost use Rattle.spd_state.specs.Dag.{next_handle};
+ghost use Rattle.std.specs.Prelude.{◌≡◌, ◌==◌};
+ghost use Rattle.spd_words.specs.Words.{node_of};
 ghost use Rattle.spd_rule.specs.Shares.{IsOf, IsSame};
 
+use crate::handle::next_of;
 use spd_rule::{Field, Share, claim, sub_root, wake_vertex};
-use spd_words::{Body, NodeWord, PairWord};
+use spd_words::{Body, NodeWord};
 
 /// What a signal steps on next: the pair of the running vertex, the node whose handle it has claimed,
 /// or the vertex that waits for the finish which it has emptied.
@@ -75,12 +75,7 @@ impl SignalCall {
     }
 
     /// Departs from the node with its unit.
-    fn depart<B: Body>(
-        &mut self,
-        field: &Field<B>,
-        share: &mut Share<B>,
-        node: u32,
-    ) -> SignalTurn
+    fn depart<B: Body>(&mut self, field: &Field<B>, share: &mut Share<B>, node: u32) -> SignalTurn
         requires of { IsOf field.now share.old }
         requires stage { self.old.stage ≡ stage.Depart node }
         requires goes { SignalMayGo field.now self.old share.old }
@@ -88,7 +83,8 @@ impl SignalCall {
         ensures turned { SignalPlays field.now self.old self.new share.old share.new result }
     {
         let root = sub_root(field, share, node);
-        if NodeWord::twice(root) == 2 {
+        let last = was_last(root);
+        if last {
             self.stage = SignalStage::Wake(node);
             return SignalTurn::More;
         }
@@ -96,12 +92,7 @@ impl SignalCall {
     }
 
     /// Wakes the vertex that waits for the finish.
-    fn wake<B: Body>(
-        &mut self,
-        field: &Field<B>,
-        share: &mut Share<B>,
-        finish: u32,
-    ) -> SignalTurn
+    fn wake<B: Body>(&mut self, field: &Field<B>, share: &mut Share<B>, finish: u32) -> SignalTurn
         requires of { IsOf field.now share.old }
         requires stage { self.old.stage ≡ stage.Wake finish }
         requires goes { SignalMayGo field.now self.old share.old }
@@ -115,14 +106,9 @@ impl SignalCall {
     }
 }
 
-/// The handle that a claim takes which found this word.
-fn next_of(pair: u64) -> u32
-    requires { (pair_of pair).claims < 2 }
-    ensures { result ≡ next_handle (pair_of pair) }
+/// Whether a departure that found this word at a root took its last unit: the count was 1.
+fn was_last(root: u64) -> bool
+    ensures { result ≡ ((node_of root).twice == 2) }
 {
-    if PairWord::claims(pair) == 0 {
-        PairWord::first(pair)
-    } else {
-        PairWord::second(pair)
-    }
+    NodeWord::twice(root) == 2
 }
