@@ -66,6 +66,7 @@ module _ {B : Type 0} (z : TableId) (me : Me (Option B) View) (b b' : Beside) (h
         claimed = claims;
         told = told;
         spare = k.spare ∙ h.spare;
+        marked = k.full ∙ h.marked;
         inside = λ r e. kept_inside z over b.running h.inside r (sym run ∙ e);
         flies = λ f e. h.flies f (sym k.flight ∙ e);
         few = let t = told in omega arith;
@@ -109,7 +110,7 @@ drawn_slots draw n told me e i = first_slot draw n ∷ second_slot draw n ∷ e 
 
 pub mirrors_draw : {B : Type 0} (p : PlanView) (z : TableId) (me me' : Me (Option B) View) (b b' : Beside) (draw : Draw) (told : Meaning) (n : ℕ)
     → Mirrors z me b → z.slots ≡ 2 * p.moves → DrawsMove p draw told n me me'
-    → (n < p.moves → b' ≡ record b { flight = Some (drawn_flight draw n b.running) }) → (p.moves ≤ n → b' ≡ b) → Mirrors z me' b'
+    → (n < p.moves → b' ≡ record b { flight = Some (drawn_flight draw n b.running) }) → (p.moves ≤ n → b' ≡ record b { full = true }) → Mirrors z me' b'
 mirrors_draw {B} p z me me' b b' draw told n h size k drawn full = dite (dec_lt n p.moves)
     (λ l. subst (Mirrors z me') (sym (drawn l)) (subst (λ (m : Me (Option B) View). Mirrors z m (record b { flight = Some (drawn_flight draw n b.running) }))
     (sym (k.drawn l)) record {
@@ -119,6 +120,7 @@ mirrors_draw {B} p z me me' b b' draw told n h size k drawn full = dite (dec_lt 
       claimed = h.claimed;
       told = h.told;
       spare = h.spare;
+      marked = h.marked;
       inside = h.inside;
       flies = λ f e. let i : drawn_flight draw n b.running ≡ f = cc in let j : (drawn_flight draw n b.running).number ≡ f.number = ap
           (λ (g : Flight). g.number) i in let m = flight_number draw n b.running in omega arith;
@@ -127,13 +129,14 @@ mirrors_draw {B} p z me me' b b' draw told n h size k drawn full = dite (dec_lt 
       slots = drawn_slots draw n told me h.slots;
     }))
     (λ l. let o : p.moves ≤ n = omega arith in subst (Mirrors z me') (sym (full o))
-    (subst (λ (m : Me (Option B) View). Mirrors z m b) (sym (k.full o)) record {
+    (subst (λ (m : Me (Option B) View). Mirrors z m (record b { full = true })) (sym (k.full o)) record {
       running = h.running;
       flight = h.flight;
       units = h.units;
       claimed = h.claimed;
       told = h.told;
       spare = h.spare;
+      marked = sym (lt-ltb 0 (me.0.full_draws + 1) (omega arith));
       inside = h.inside;
       flies = h.flies;
       few = h.few;
@@ -167,6 +170,7 @@ module _ {B : Type 0} (z : TableId) (me me' : Me (Option B) View) (b b' : Beside
         claimed = h.claimed;
         told = h.told;
         spare = h.spare;
+        marked = h.marked;
         inside = h.inside;
         flies = flies_at z 2 b.flight h.flies;
         few = h.few;
@@ -195,6 +199,7 @@ module _ {B : Type 0} (z : TableId) (me me' : Me (Option B) View) (b b' : Beside
         claimed = t.claimed;
         told = t.told ∙ h.told;
         spare = t.spare ∙ h.spare;
+        marked = t.full ∙ h.marked;
         inside = λ r i. h.inside r (sym t.running ∙ i);
         flies = λ f i. flies_at z 2 b.flight h.flies f (sym t.flight ∙ i);
         few = let l = h.few in let m = t.told in omega arith;

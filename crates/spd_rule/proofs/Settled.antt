@@ -89,6 +89,7 @@ mirrors_rested z me b None None h = record {
   claimed = h.claimed;
   told = h.told;
   spare = h.spare;
+  marked = h.marked;
   inside = h.inside;
   flies = h.flies;
   few = h.few;

@@ -1,5 +1,6 @@
 -- The numbers that a share keeps beside its seat.
 use Rattle.std.specs.Prelude.{◌≡◌, ◌<◌, ◌≤◌, ◌*◌, ℕ, Option, Some, length, map}
+use lib.Dec.{ltb}
 use Rattle.atomic_table.specs.Table.{Me}
 use Rattle.atomic_table.specs.Seated.{TableId}
 use Rattle.spd_state.specs.Sums.{count}
@@ -17,6 +18,7 @@ pub record Mirrors {B : Type 0} (z : TableId) (me : Me (Option B) View) (b : Bes
   pub claimed : b.claimed ≡ length me.0.claimed
   pub told : b.told ≡ length me.0.told
   pub spare : b.spare ≡ me.0.spare
+  pub marked : b.full ≡ ltb 0 me.0.full_draws
   pub inside : (r : Running) → b.running ≡ Some r → IsWithin z r × (r.side < 2)
   pub flies : (f : Flight) → b.flight ≡ Some f → 2 * f.number < z.slots
   pub few : 2 * b.told ≤ z.slots

@@ -18,6 +18,7 @@ pub record IsNewBeside (b : Beside) (spare : ℕ) : Type 0 where
   pub claimed : b.claimed ≡ 0
   pub told : b.told ≡ 0
   pub spares : b.spare ≡ spare
+  pub full : b.full ≡ false
 
 -- One d less stands in the list, in whatever order.
 abbrev pub TakesUnit : ℕ → List ℕ → List ℕ → Type 0
@@ -30,6 +31,7 @@ pub record HoldsOneMore (d : ℕ) (old new : Beside) : Type 0 where
   pub claimed : new.claimed ≡ old.claimed
   pub told : new.told ≡ old.told
   pub spare : new.spare ≡ old.spare
+  pub full : new.full ≡ old.full
 
 -- For all lists with so many claimed units and told finishes: nothing, where such a share's vertex is over.
 abbrev pub IsSettled : Option Running → Option Flight → ℕ → ℕ → Option Running → Type 0
@@ -43,6 +45,7 @@ pub record DepartsFrom (d : ℕ) (last : Bool) (old new : Beside) : Type 0 where
   pub running : IsSettled old.running old.flight new.claimed new.told new.running
   pub flight : new.flight ≡ old.flight
   pub spare : new.spare ≡ old.spare
+  pub full : new.full ≡ old.full
 
 -- A finish is told no more.
 pub record WakesBeside (old new : Beside) : Type 0 where
@@ -52,6 +55,7 @@ pub record WakesBeside (old new : Beside) : Type 0 where
   pub claimed : new.claimed ≡ old.claimed
   pub flight : new.flight ≡ old.flight
   pub spare : new.spare ≡ old.spare
+  pub full : new.full ≡ old.full
 
 -- the move in flight at this stage
 abbrev pub flight_at : ℕ → Option Flight → Option Flight
@@ -80,6 +84,7 @@ pub record PairsUnits (second : ℕ) (old new : Beside) : Type 0 where
   pub running : new.running ≡ old.running
   pub told : new.told ≡ old.told
   pub spare : new.spare ≡ old.spare
+  pub full : new.full ≡ old.full
 
 abbrev pub StoresFirst : Flight → Beside → Beside → Type 0
 StoresFirst f old new = new ≡ record old {

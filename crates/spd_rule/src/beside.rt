@@ -27,6 +27,8 @@ pub(crate) struct Beside {
     pub claimed: u32,
     pub told: u32,
     pub spare: u32,
+    /// It has seen the moves full.
+    pub full: bool,
 }
 
 impl Beside {
@@ -41,6 +43,7 @@ impl Beside {
             claimed: 0,
             told: 0,
             spare,
+            full: false,
         }
     }
 
@@ -57,11 +60,13 @@ impl Beside {
     /// A move is drawn, where one was left.
     pub fn draw(&mut self, of: Draw, number: u64, moves: u32)
         ensures drawn { number < moves → DrawsBeside of number self.old self.new }
-        ensures full { moves ≤ number → self.new ≡ self.old }
+        ensures full { moves ≤ number → self.new ≡ record self.old { full = true } }
     {
         if number < u64::from(moves) {
             let number = number as u32;
             self.flight = Some(flight_of(of, number, self.running));
+        } else {
+            self.full = true;
         }
     }
 

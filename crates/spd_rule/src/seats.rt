@@ -98,6 +98,7 @@ impl<B: Body> Field<B> {
             .shared
             .join_seat::<JoinViews>(&mut share.seat, seat);
         share.beside.spare += beside.spare;
+        share.beside.full = share.beside.full || beside.full;
         drop(beside);
     }
 }

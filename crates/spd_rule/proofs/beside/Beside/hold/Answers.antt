@@ -12,4 +12,5 @@ returns c = record {
   claimed = refl;
   told = refl;
   spare = refl;
+  full = refl;
 }
