@@ -1,5 +1,5 @@
 -- The evaluation of a code, by places: what a machine that runs it is held to.
-use Rattle.std.specs.Prelude.{Result, ℕ, zero, suc, ◌-ℤ◌, List, [], ◌∷◌, ◌++◌, length, map, slice_get, ℤ, pos, Ok, true, false, None, unwrap_or}
+use Rattle.std.specs.Prelude.{Result, ℕ, zero, suc, ◌-ℤ◌, List, [], ◌∷◌, ◌++◌, length, map, slice_get, ℤ, pos, Ok, true, false, None, Some, unwrap_or}
 use Rattle.spd_words.specs.declared.finish_kind.FinishKind.TheVariants as kind
 use Rattle.spd_code.specs.declared.expr.CodeExpr.{CodeExpr, fold-CodeExpr}
 use Rattle.spd_code.specs.declared.expr.CodeExpr.TheOpen as expr
@@ -93,7 +93,7 @@ module _ (around : Around ℕ) where
 -- ---- calls
 
 abbrev pub no_item : CodeItem
-no_item = record { params = 0; body = roll-CodeBlock (record { number = None; stmts = [] }) }
+no_item = record { params = 0; body = roll-CodeBlock (record { number = Some 0; stmts = [] }) }
 
 -- the one of a number, or one that does nothing
 abbrev pub item_at : List CodeItem → ℕ → CodeItem
