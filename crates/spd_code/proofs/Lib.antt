@@ -16,3 +16,4 @@ pub mod Below
 pub mod Never
 pub mod Jobs
 pub mod JobsAlike
+pub mod Numbering

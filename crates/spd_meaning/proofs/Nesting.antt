@@ -1,5 +1,5 @@
 -- Pieces are nested in what is given, so each that main meets is one job.
-use Rattle.std.proofs.Common.{◌≡◌, ℕ, zero, suc, ◌+◌, List, [], ◌∷◌, ◌++◌, refl, sym, ◌∙◌, ap, subst, arith, append_assoc, ℤ, Result, Ok, Err, length}
+use Rattle.std.proofs.Common.{◌≡◌, ℕ, zero, suc, ◌+◌, List, [], ◌∷◌, ◌++◌, refl, ◌∙◌, ap, subst, arith, append_assoc, ℤ, Result, Ok, Err, length}
 use Rattle.spd_words.specs.declared.finish_kind.FinishKind.{FinishKind}
 use Rattle.spd_meaning.specs.Acts.{Acts, Offer, Code, Line, Begin, Over, Tick, Piece, Async, Finish, Call, piece_moves, passed, moves_of, jobs_from, jobs_of}
 use Rattle.spd_meaning.specs.Eval.{End, Fell, Back, Fault, Eval, Returned, go_on, then_do, counted, with_value, with_values, with_line, cut, turns, end_codes, async_of, finish_of, call_of}
