@@ -9,6 +9,8 @@ pub mod Alike
 pub mod AlikeValues
 pub mod Layers
 pub mod AlikeTrees
+pub mod Faulting
+pub mod Laws
 pub mod AlikePrograms
 pub mod Silent
 pub mod Standing
