@@ -103,9 +103,11 @@ fits_err (Ok v) c e h = absurd (cc)
 fits_err (Err d) c e h = let z : d ≡ c = cc in omega (arith, h, z)
 
 -- at every depth
-pub function_below : (context : Context) → ((f : ℕ) → lined_block (item_at context.code.functions f).body ≡ true) → ((t : ℕ) → lined_block (item_at context.code.tasks t).body ≡ true) →
+pub function_below : (context : Context) → ((f : ℕ) → lined_block (item_at context.code.functions f).body ≡ true) →
+    ((t : ℕ) → lined_block (item_at context.code.tasks t).body ≡ true) →
     (f left : ℕ) (args : List ℤ) (c : ℕ) →
-    value_back (eval_block (around_of context left) (item_at context.code.functions f).body (fitted (item_at context.code.functions f).params args)).end ≡ Err c → c < no_fault
+    value_back (eval_block (around_of context left) (item_at context.code.functions f).body (fitted (item_at context.code.functions f).params args)).end
+    ≡ Err c → c < no_fault
 unfolding lined_block guarded_block
 function_below context fs ts f left args c e =
     let i = item_at context.code.functions f in

@@ -86,8 +86,10 @@ module _ (F : ℕ → Type 0) (line : ℕ) (by_zero : F (division_by_zero line))
   at_layer (CodeExpr-F.Size c a) = rolled (CodeExpr-F.Size c a.0) (λ vars. read_at a vars _ (λ v. bytes_faults ((around.column c).text v) _ (λ bytes. tt)))
   at_layer (CodeExpr-F.At c a d) = rolled (CodeExpr-F.At c a.0 d.0) (λ vars.
       read_at a vars _ (λ v. read_at d vars _ (λ w. bytes_faults ((around.column c).text v) _ (λ bytes. range_faults (byte_value (nth bytes w))))))
-  at_layer (CodeExpr-F.Same c a text) = rolled (CodeExpr-F.Same c a.0 text) (λ vars. read_at a vars _ (λ v. bytes_faults ((around.column c).text v) _ (λ bytes. tt)))
-  at_layer (CodeExpr-F.Begins c a text) = rolled (CodeExpr-F.Begins c a.0 text) (λ vars. read_at a vars _ (λ v. bytes_faults ((around.column c).text v) _ (λ bytes. tt)))
+  at_layer (CodeExpr-F.Same c a text) =
+      rolled (CodeExpr-F.Same c a.0 text) (λ vars. read_at a vars _ (λ v. bytes_faults ((around.column c).text v) _ (λ bytes. tt)))
+  at_layer (CodeExpr-F.Begins c a text) =
+      rolled (CodeExpr-F.Begins c a.0 text) (λ vars. read_at a vars _ (λ v. bytes_faults ((around.column c).text v) _ (λ bytes. tt)))
 
   pub value_faults : (e : CodeExpr) → Faulting e
   value_faults = C.ind-CodeExpr Faulting (λ x y e. subst (λ (z : CodeExpr-F CodeExpr). Faulting (C.roll-CodeExpr z)) e (at_layer y))

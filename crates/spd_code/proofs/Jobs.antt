@@ -48,11 +48,13 @@ block_nests context left b vars =
 -- ---- main's walk
 
 pub finish_jobs : (context : Context) (left : ℕ) (b : CodeBlock) (vars : List ℤ) (rest : Acts) →
-    jobs_of (Begin Finish ∷ (passed (eval_block (around_of context left) b vars).given ++ Over ∷ rest)) ≡ moves_of (eval_block (around_of context left) b vars).given ∷ jobs_of rest
+    jobs_of (Begin Finish ∷ (passed (eval_block (around_of context left) b vars).given ++ Over ∷ rest))
+    ≡ moves_of (eval_block (around_of context left) b vars).given ∷ jobs_of rest
 finish_jobs context left b vars rest =
     let g = (eval_block (around_of context left) b vars).given in
     one_job Finish (passed g) rest (nested_passed g (block_nests context left b vars)) ∙ ap (λ n. n ∷ jobs_of rest) (passed_moves g)
 
 pub call_jobs : (context : Context) (left : ℕ) (item : CodeItem) (args : List ℤ) (rest : Acts) →
-    jobs_of (Begin Call ∷ ((item_returned (around_of context left) item args).given ++ Over ∷ rest)) ≡ moves_of (item_returned (around_of context left) item args).given ∷ jobs_of rest
+    jobs_of (Begin Call ∷ ((item_returned (around_of context left) item args).given ++ Over ∷ rest))
+    ≡ moves_of (item_returned (around_of context left) item args).given ∷ jobs_of rest
 call_jobs context left item args rest = one_job Call _ rest (block_nests context left item.body (fitted item.params args))

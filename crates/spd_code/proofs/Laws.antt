@@ -106,16 +106,19 @@ module _ (guard : Guard) (lines : ℕ → Bool) (F : ℕ → Type 0) (P : Eval �
   turns_law : (n : ℕ) (at : ℤ) (body : ℤ → CodeRun) → ((at : ℤ) (vars : List ℤ) → P (body at vars)) → (vars : List ℤ) → P (turns n at body vars)
   turns_law zero at body h vars = law.fell vars
   turns_law (suc n) at body h vars =
-      law.goes_on (counted (cut (length vars) (body at vars))) (turns n _ body) (law.counts _ (law.cuts (length vars) (body at vars) (h at vars))) (turns_law n _ body h)
+      law.goes_on (counted (cut (length vars) (body at vars))) (turns n _ body) (law.counts _ (law.cuts (length vars) (body at vars) (h at vars)))
+      (turns_law n _ body h)
 
-  run_law : {A : Type 0} (q : A → Bool) (f : A → CodeRun) → ((a : A) → q a ≡ true → (vars : List ℤ) → P (f a vars)) → (xs : List A) → all_true (map q xs) ≡ true →
+  run_law : {A : Type 0} (q : A → Bool) (f : A → CodeRun) → ((a : A) → q a ≡ true → (vars : List ℤ) → P (f a vars)) → (xs : List A) →
+      all_true (map q xs) ≡ true →
       (vars : List ℤ) → P (run_code (map f xs) vars)
   run_law q f h [] e vars = law.fell vars
   run_law q f h (x ∷ xs) e vars =
       let t = true_both (q x) (all_true (map q xs)) e in
       law.goes_on (f x vars) (run_code (map f xs)) (h x t.0 vars) (run_law q f h xs t.1)
 
-module _ (guard : Guard) (lines : ℕ → Bool) (F : ℕ → Type 0) (P : Eval ℤ → Type 0) (Q : Returned → Type 0) (law : Law guard lines F P Q) (faults : FaultsLaw lines F)
+module _ (guard : Guard) (lines : ℕ → Bool) (F : ℕ → Type 0) (P : Eval ℤ → Type 0) (Q : Returned → Type 0) (law : Law guard lines F P Q)
+    (faults : FaultsLaw lines F)
     (around : Around ℕ) (calls : CallsLaw guard lines Q around.calls) where
   abbrev KindHolds : CodeStmtKind → Type 0
   KindHolds k = guarded_kind guard lines k ≡ true → (line : ℕ) → lines line ≡ true → (vars : List ℤ) → P (eval_kind around k line vars)
@@ -136,14 +139,17 @@ module _ (guard : Guard) (lines : ℕ → Bool) (F : ℕ → Type 0) (P : Eval �
   StmtWith = (s : CodeStmt) × StmtHolds s
 
   rolled : (z : c.CodeStmtKind-F CodeStmtKind CodeBlock CodeStmt) →
-      (guard (K.map-CodeStmtKind CodeStmtKind CodeBlock CodeStmt Bool Bool Bool (guarded_kind guard lines) (guarded_block guard lines) (guarded_stmt guard lines) z) ≡ true → (line : ℕ) → lines line ≡ true →
+      (guard (K.map-CodeStmtKind CodeStmtKind CodeBlock CodeStmt Bool Bool Bool (guarded_kind guard lines) (guarded_block guard lines)
+      (guarded_stmt guard lines) z) ≡ true → (line : ℕ) → lines line ≡ true →
       (vars : List ℤ) → P (code_deed_step around (evaluated around z) line vars)) → KindHolds (K.roll-CodeStmtKind z)
   rolled z n e line l vars =
       subst (λ (d : CodeDeed). P (d line vars)) (sym (rolled_kind around z)) (n (sym (guarded_rolled_kind guard lines z) ∙ e) line l vars)
 
   -- a statement that begins with a value
-  with_expr : (e : CodeExpr) (line : ℕ) → lines line ≡ true → (vars : List ℤ) (f : ℤ → Eval ℤ) → ((v : ℤ) → P (f v)) → P (with_value (code_value around e vars line) f)
-  with_expr e line l vars f h = value_law guard lines F P Q law (code_value around e vars line) f (value_faults F line (faults.by_zero line l) (faults.beyond line l) around e vars) h
+  with_expr : (e : CodeExpr) (line : ℕ) → lines line ≡ true → (vars : List ℤ) (f : ℤ → Eval ℤ) → ((v : ℤ) → P (f v)) →
+      P (with_value (code_value around e vars line) f)
+  with_expr e line l vars f h = value_law guard lines F P Q law (code_value around e vars line) f
+      (value_faults F line (faults.by_zero line l) (faults.beyond line l) around e vars) h
 
   with_args : (es : List CodeExpr) (line : ℕ) → lines line ≡ true → (vars : List ℤ) (f : List ℤ → Eval ℤ) → ((vs : List ℤ) → P (f vs)) →
       P (with_values (all_values (map (λ e. code_value around e vars line) es)) f)
@@ -155,8 +161,11 @@ module _ (guard : Guard) (lines : ℕ → Bool) (F : ℕ → Type 0) (P : Eval �
   at_layer (c.Assign p e) = rolled (c.Assign p e) (λ q line l vars. with_expr e line l vars _ (λ v. law.fell _))
   at_layer (c.If e x y) = rolled (c.If e x.0 y.0) (λ q line l vars.
       let t = law.branches e x.0 y.0 q in
-      with_expr e line l vars _ (λ v. elim (is_true v) as (λ z. P (cut (length vars) ((if z then eval_block around x.0 else eval_block around y.0) vars)))
-      [ true ↦ law.cuts (length vars) (eval_block around x.0 vars) (x.1 t.0 vars) | false ↦ law.cuts (length vars) (eval_block around y.0 vars) (y.1 t.1 vars) ]))
+      with_expr e line l vars _ (λ v. elim (is_true v) as (λ z. P (cut (length vars) ((if z then eval_block around x.0 else eval_block around y.0) vars))) [
+        | true ↦ law.cuts (length vars) (eval_block around x.0 vars) (x.1 t.0 vars)
+        | false ↦
+            law.cuts (length vars) (eval_block around y.0 vars) (y.1 t.1 vars)
+      ]))
   at_layer (c.For e g b) = rolled (c.For e g b.0) (λ q line l vars. with_expr e line l vars _ (λ x. with_expr g line l vars _ (λ y.
       turns_law guard lines F P Q law (turns_to (y -ℤ x)) x _ (λ at vs. b.1 (law.loops e g b.0 q) (vs ++ at ∷ [])) vars)))
   at_layer (c.LetCall f es) = rolled (c.LetCall f es) (λ q line l vars. with_args es line l vars _ (λ vs.
@@ -171,17 +180,20 @@ module _ (guard : Guard) (lines : ℕ → Bool) (F : ℕ → Type 0) (P : Eval �
   at_layer (c.Offer e) = rolled (c.Offer e) (λ q line l vars. with_expr e line l vars _ (λ v. law.offer e v vars q))
   at_layer (c.Return e) = rolled (c.Return e) (λ q line l vars. with_expr e line l vars _ (λ v. law.back v))
   at_layer (c.Print ps) = rolled (c.Print ps) (λ q line l vars.
-      line_law guard lines F P Q law (all_texts (map (λ p. code_part_value around p vars line) ps)) _ (parts_faults F line (faults.by_zero line l) (faults.beyond line l) around ps vars)
+      line_law guard lines F P Q law (all_texts (map (λ p. code_part_value around p vars line) ps)) _
+      (parts_faults F line (faults.by_zero line l) (faults.beyond line l) around ps vars)
       (λ t. law.print ps t vars q))
 
   at_kinds : (x : c.CodeStmtKind-F CodeStmtKind CodeBlock CodeStmt) (y : c.CodeStmtKind-F KindWith BlockWith StmtWith) →
       K.map-CodeStmtKind KindWith BlockWith StmtWith CodeStmtKind CodeBlock CodeStmt (λ k. k.0) (λ b. b.0) (λ s. s.0) y ≡ x → KindHolds (K.roll-CodeStmtKind x)
   at_kinds x y e = subst (λ (z : c.CodeStmtKind-F CodeStmtKind CodeBlock CodeStmt). KindHolds (K.roll-CodeStmtKind z)) e (at_layer y)
 
-  of_block : (ss : List StmtWith) (x : c.CodeBlock-F CodeStmtKind CodeBlock CodeStmt) → map (λ (s : StmtWith). s.0) ss ≡ x.stmts → BlockHolds (B.roll-CodeBlock x)
+  of_block : (ss : List StmtWith) (x : c.CodeBlock-F CodeStmtKind CodeBlock CodeStmt) → map (λ (s : StmtWith). s.0) ss ≡ x.stmts →
+      BlockHolds (B.roll-CodeBlock x)
   of_block ss x e q vars =
       let t : all_true (map (λ (s : StmtWith). guarded_stmt guard lines s.0) ss) ≡ true =
-      ap all_true (sym (map_map {A = StmtWith} (λ s. s.0) (guarded_stmt guard lines) ss)) ∙ ap (λ (zs : List CodeStmt). all_true (map (guarded_stmt guard lines) zs)) e ∙ sym (guarded_rolled_block guard lines x) ∙ q in
+      ap all_true (sym (map_map {A = StmtWith} (λ s. s.0) (guarded_stmt guard lines) ss))
+      ∙ ap (λ (zs : List CodeStmt). all_true (map (guarded_stmt guard lines) zs)) e ∙ sym (guarded_rolled_block guard lines x) ∙ q in
       let n = run_law guard lines F P Q law {A = StmtWith} (λ s. guarded_stmt guard lines s.0) (λ s. eval_stmt around s.0) (λ s z vs. s.1 z vs) ss t vars in
       subst (λ (a : CodeRun). P (a vars))
       (ap run_code (sym (map_map {A = StmtWith} (λ s. s.0) (eval_stmt around) ss)) ∙ ap (λ (zs : List CodeStmt). run_code (map (eval_stmt around) zs)) e
@@ -205,9 +217,11 @@ module _ (guard : Guard) (lines : ℕ → Bool) (F : ℕ → Type 0) (P : Eval �
   block_law = B.ind-CodeBlock KindHolds BlockHolds StmtHolds at_kinds at_blocks at_stmts
 
 -- at every depth, where the items are let through
-pub calls_law : (guard : Guard) (lines : ℕ → Bool) (F : ℕ → Type 0) (P : Eval ℤ → Type 0) (Q : Returned → Type 0) (law : Law guard lines F P Q) (faults : FaultsLaw lines F)
+pub calls_law : (guard : Guard) (lines : ℕ → Bool) (F : ℕ → Type 0) (P : Eval ℤ → Type 0) (Q : Returned → Type 0) (law : Law guard lines F P Q)
+    (faults : FaultsLaw lines F)
     (context : Context) → ((f : ℕ) → guarded_block guard lines (item_at context.code.functions f).body ≡ true) →
-    ((t : ℕ) (es : List CodeExpr) → guard (c.Run t es) ≡ true → guarded_block guard lines (item_at context.code.tasks t).body ≡ true) → (left : ℕ) → CallsLaw guard lines Q (calls_of context left)
+    ((t : ℕ) (es : List CodeExpr) → guard (c.Run t es) ≡ true → guarded_block guard lines (item_at context.code.tasks t).body ≡ true) → (left : ℕ) →
+    CallsLaw guard lines Q (calls_of context left)
 unfolding calls_of
 calls_law guard lines F P Q law faults context fs ts zero = record {
   function = λ f args line l. law.returns (quiet (Fault (too_deep line))) (law.fault (too_deep line) (faults.deep line l));
@@ -216,8 +230,10 @@ calls_law guard lines F P Q law faults context fs ts zero = record {
 calls_law guard lines F P Q law faults context fs ts (suc left) =
     let h = calls_law guard lines F P Q law faults context fs ts left in
     record {
-      function = λ f args line l. law.returns _ (block_law guard lines F P Q law faults (around_of context left) h (item_at context.code.functions f).body (fs f) (fitted (item_at context.code.functions f).params args));
-      task = λ t es args line q l. law.returns _ (block_law guard lines F P Q law faults (around_of context left) h (item_at context.code.tasks t).body (ts t es q) (fitted (item_at context.code.tasks t).params args));
+      function = λ f args line l. law.returns _ (block_law guard lines F P Q law faults (around_of context left) h (item_at context.code.functions f).body
+          (fs f) (fitted (item_at context.code.functions f).params args));
+      task = λ t es args line q l. law.returns _ (block_law guard lines F P Q law faults (around_of context left) h (item_at context.code.tasks t).body
+          (ts t es q) (fitted (item_at context.code.tasks t).params args));
     }
 
 -- ---- laws that hold of all code

@@ -32,7 +32,8 @@ pub record Never (a : Eval ℤ) : Type 0 where
 
 codes_both : (p q : Acts) → least (codes_of p) ≢ 0 → least (codes_of q) ≢ 0 → least (codes_of (p ++ q)) ≢ 0
 codes_both p q h g =
-    let e : least (codes_of (p ++ q)) ≡ min (least (codes_of p)) (least (codes_of q)) = ap least (flat_map-append code_in p q) ∙ least-append (codes_of p) (codes_of q) in
+    let e : least (codes_of (p ++ q)) ≡ min (least (codes_of p)) (least (codes_of q)) = ap least (flat_map-append code_in p q)
+    ∙ least-append (codes_of p) (codes_of q) in
     λ z. least_two (least (codes_of p)) (least (codes_of q)) h g (sym e ∙ z)
   where
     least_two : (m n : ℕ) → m ≢ 0 → n ≢ 0 → min m n ≢ 0
@@ -66,7 +67,11 @@ pub finish_never : (a : Eval ℤ) → Never a → least (codes_of (for_finish a)
 finish_never a h = codes_both a.given (end_codes a.end) h.codes (end_never a.end h.end)
 
 async_never : (vars : List ℤ) (a : Eval ℤ) → Never a → Never (async_of vars a)
-async_never vars a h = record { codes = codes_both a.given (end_codes a.end ++ Over ∷ []) h.codes (codes_both (end_codes a.end) (Over ∷ []) (end_never a.end h.end) none); end = tt }
+async_never vars a h =
+    record {
+      codes = codes_both a.given (end_codes a.end ++ Over ∷ []) h.codes (codes_both (end_codes a.end) (Over ∷ []) (end_never a.end h.end) none);
+      end = tt;
+    }
 
 finish_of_never : (k : FinishKind) (line : ℕ) (h : ℤ → List ℤ) (a : Eval ℤ) → Never a → Never (finish_of k line h a)
 finish_of_never k line h a n =
@@ -131,7 +136,8 @@ never context left b vars = finish_never (eval_block (around_of context left) b 
 
 -- a job that is a call
 pub back_never : (a : Eval ℤ) → Never a → least (codes_of (for_finish (back_offered a))) ≢ 0
-back_never a h = codes_both (a.given ++ offer_back (value_back a.end)) (end_codes (call_end {A = ℤ} (λ v. []) (value_back a.end))) (codes_both a.given (offer_back (value_back a.end)) h.codes (given_none (value_back a.end))) (back_well a.end h.end)
+back_never a h = codes_both (a.given ++ offer_back (value_back a.end)) (end_codes (call_end {A = ℤ} (λ v. []) (value_back a.end)))
+    (codes_both a.given (offer_back (value_back a.end)) h.codes (given_none (value_back a.end))) (back_well a.end h.end)
   where
     given_none : (r : Result ℤ ℕ) → least (codes_of (offer_back r)) ≢ 0
     given_none (Ok v) = none

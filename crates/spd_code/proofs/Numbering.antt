@@ -37,7 +37,8 @@ WK = WithBlocks StmtKind
 abbrev WS : Type 0
 WS = WithBlocks Stmt
 
-numbered_rolled_kind : (z : c.CodeStmtKind-F CodeStmtKind CodeBlock CodeStmt) → numbered_kind (CK.roll-CodeStmtKind z) ≡ number_kind (CK.map-CodeStmtKind CodeStmtKind CodeBlock CodeStmt NK NB NS numbered_kind numbered_block numbered_stmt z)
+numbered_rolled_kind : (z : c.CodeStmtKind-F CodeStmtKind CodeBlock CodeStmt) → numbered_kind (CK.roll-CodeStmtKind z)
+    ≡ number_kind (CK.map-CodeStmtKind CodeStmtKind CodeBlock CodeStmt NK NB NS numbered_kind numbered_block numbered_stmt z)
 unfolding numbered_kind numbered_block numbered_stmt
 numbered_rolled_kind z = CK.fold-roll-CodeStmtKind NK NB NS number_kind number_block number_stmt z
 
@@ -138,13 +139,16 @@ module _ (spaces : Spaces) where
       let rest = statements_code (resolved ts) (names ++ r.binds) (next + r.blocks) in
       ap (λ (xs : List CodeBlock). xs ++ blocks_in_stmts (map numbered_stmt rest)) f.blocks
       ∙ ap (λ (xs : List CodeBlock). codes_of_blocks spaces next (w.blocks names) ++ xs) (blocks_stmts ts (names ++ r.binds) (next + r.blocks))
-      ∙ ap (λ (ns : Names). codes_of_blocks spaces next (w.blocks names) ++ codes_of_blocks spaces (next + r.blocks) (blocks_of_stmts (sources ts) (names ++ ns))) (sym f.binds)
-      ∙ ap (λ (n : ℕ). codes_of_blocks spaces next (w.blocks names) ++ codes_of_blocks spaces (next + n) (blocks_of_stmts (sources ts) (names ++ w.binds))) (sym f.count)
+      ∙ ap (λ (ns : Names). codes_of_blocks spaces next (w.blocks names) ++ codes_of_blocks spaces (next + r.blocks)
+      (blocks_of_stmts (sources ts) (names ++ ns))) (sym f.binds)
+      ∙ ap (λ (n : ℕ). codes_of_blocks spaces next (w.blocks names) ++ codes_of_blocks spaces (next + n) (blocks_of_stmts (sources ts) (names ++ w.binds)))
+      (sym f.count)
       ∙ sym (codes_append spaces next (w.blocks names) (blocks_of_stmts (sources ts) (names ++ w.binds)))
 
   -- ---- blocks
 
-  itself_block : (ts : List StmtWith) (names : Names) (next : ℕ) → (numbered_block (block_code (resolved ts) names next)).itself ≡ block_code (resolved ts) names next
+  itself_block : (ts : List StmtWith) (names : Names) (next : ℕ) → (numbered_block (block_code (resolved ts) names next)).itself
+      ≡ block_code (resolved ts) names next
   itself_block ts names next =
       let stmts = statements_code (resolved ts) names (suc next) in
       ap (λ (n : NB). n.itself) (numbered_rolled_block (record { number = Some next; stmts = stmts }))
@@ -155,11 +159,13 @@ module _ (spaces : Spaces) where
   blocks_block part ts names next =
       let stmts = statements_code (resolved ts) names (suc next) in
       ap (λ (n : NB). n.blocks) (numbered_rolled_block (record { number = Some next; stmts = stmts }))
-      ∙ ap (λ (xs : List CodeStmt). CB.roll-CodeBlock (record { number = Some next; stmts = xs }) ∷ blocks_in_stmts (map numbered_stmt stmts)) (itself_stmts ts names (suc next))
+      ∙ ap (λ (xs : List CodeStmt). CB.roll-CodeBlock (record { number = Some next; stmts = xs }) ∷ blocks_in_stmts (map numbered_stmt stmts))
+      (itself_stmts ts names (suc next))
       ∙ ap (λ (bs : List CodeBlock). block_code (resolved ts) names next ∷ bs) (blocks_stmts ts names (suc next))
       ∙ ap (λ (xs : List Stmt). code_of spaces names next xs ∷ codes_of_blocks spaces (suc next) (blocks_of_stmts (sources ts) names)) (sym (same_stmts ts))
 
-  itself_else : (ts : List StmtWith) (names : Names) (next : ℕ) → (numbered_block (else_code (resolved ts) names next)).itself ≡ else_code (resolved ts) names next
+  itself_else : (ts : List StmtWith) (names : Names) (next : ℕ) → (numbered_block (else_code (resolved ts) names next)).itself
+      ≡ else_code (resolved ts) names next
   itself_else [] names next = ap (λ (n : NB). n.itself) (numbered_rolled_block (record { number = None; stmts = [] }))
   itself_else (t ∷ ts) names next = itself_block (t ∷ ts) names next
 
@@ -189,28 +195,33 @@ module _ (spaces : Spaces) where
     itself : (number_kind (numbered_layer (kind_code spaces (layer z) names next))).itself ≡ CK.roll-CodeStmtKind (kind_code spaces (layer z) names next)
     blocks : blocks_in_kind (numbered_layer (kind_code spaces (layer z) names next)) ≡ codes_of_blocks spaces next (blocks_of_kind (source_layer z) names)
 
-  rolled : (z : s.StmtKind-F StmtKind Stmt) → (blocks_kind_step (source_layer z)).itself ≡ K.roll-StmtKind z → ((names : Names) (next : ℕ) → LayerFacts z names next) → KindHolds (K.roll-StmtKind z)
+  rolled : (z : s.StmtKind-F StmtKind Stmt) → (blocks_kind_step (source_layer z)).itself ≡ K.roll-StmtKind z →
+      ((names : Names) (next : ℕ) → LayerFacts z names next) → KindHolds (K.roll-StmtKind z)
   rolled z e q =
       let w : kind_with_blocks (K.roll-StmtKind z) ≡ blocks_kind_step (source_layer z) = K.fold-roll-StmtKind WK WS blocks_kind_step blocks_line_step z in
-      let r : kind_resolved spaces (K.roll-StmtKind z) ≡ resolve_kind spaces (layer z) = K.fold-roll-StmtKind RK R (resolve_kind spaces) (resolve_line spaces) z in
-      (ap (λ (x : WK). x.itself) w ∙ e,
-      λ names next.
-      let code = kind_code spaces (layer z) names next in
-      let n = numbered_rolled_kind code in
-      let f = q names next in
-      subst (λ (x : WK). KindFacts x (kind_resolved spaces (K.roll-StmtKind z)) names next) (sym w)
-      (subst (λ (y : RK). KindFacts (blocks_kind_step (source_layer z)) y names next) (sym r)
-      (record {
-        binds = f.binds;
-        count = f.count;
-        itself = ap (λ (x : NK). x.itself) n ∙ f.itself;
-        blocks = ap (λ (x : NK). x.blocks) n ∙ f.blocks;
-      })))
+      let r : kind_resolved spaces (K.roll-StmtKind z) ≡ resolve_kind spaces (layer z) =
+      K.fold-roll-StmtKind RK R (resolve_kind spaces) (resolve_line spaces) z in (
+        ap (λ (x : WK). x.itself) w ∙ e,
+        λ names next.
+            let code = kind_code spaces (layer z) names next in
+            let n = numbered_rolled_kind code in
+            let f = q names next in
+            subst (λ (x : WK). KindFacts x (kind_resolved spaces (K.roll-StmtKind z)) names next) (sym w)
+            (subst (λ (y : RK). KindFacts (blocks_kind_step (source_layer z)) y names next) (sym r)
+            (record {
+              binds = f.binds;
+              count = f.count;
+              itself = ap (λ (x : NK). x.itself) n ∙ f.itself;
+              blocks = ap (λ (x : NK). x.blocks) n ∙ f.blocks;
+            })),
+      )
 
   -- a statement without blocks
-  bare_layer : (z : s.StmtKind-F StmtKind Stmt) (names : Names) (next : ℕ) → (blocks_kind_step (source_layer z)).binds ≡ binds (layer z) → length (blocks_of_kind (source_layer z) names) ≡ kind_blocks (layer z) →
+  bare_layer : (z : s.StmtKind-F StmtKind Stmt) (names : Names) (next : ℕ) → (blocks_kind_step (source_layer z)).binds ≡ binds (layer z) →
+      length (blocks_of_kind (source_layer z) names) ≡ kind_blocks (layer z) →
       (number_kind (numbered_layer (kind_code spaces (layer z) names next))).itself ≡ CK.roll-CodeStmtKind (kind_code spaces (layer z) names next) →
-      blocks_in_kind (numbered_layer (kind_code spaces (layer z) names next)) ≡ codes_of_blocks spaces next (blocks_of_kind (source_layer z) names) → LayerFacts z names next
+      blocks_in_kind (numbered_layer (kind_code spaces (layer z) names next)) ≡ codes_of_blocks spaces next (blocks_of_kind (source_layer z) names) →
+      LayerFacts z names next
   bare_layer z names next b n i bs = record { binds = b; count = n; itself = i; blocks = bs }
 
   at_layer : (y : s.StmtKind-F KindWith StmtWith) → KindHolds (K.roll-StmtKind (K.map-StmtKind KindWith StmtWith StmtKind Stmt (λ k. k.0) (λ t. t.0) y))
@@ -233,32 +244,39 @@ module _ (spaces : Spaces) where
     itself = ap (λ (b : CodeBlock). CK.roll-CodeStmtKind (c.Finish b)) (itself_block body names next);
     blocks = blocks_block true body names next;
   })
-  at_layer (s.LetFinish name k body) = rolled (s.LetFinish name k (bare body)) (ap (λ (ts : List Stmt). K.roll-StmtKind (s.LetFinish name k ts)) (same_stmts body)) (λ names next. record {
-    binds = refl;
-    count = ap suc (count_stmts body names);
-    itself = ap (λ (b : CodeBlock). CK.roll-CodeStmtKind (c.LetFinish k b)) (itself_block body names next);
-    blocks = blocks_block true body names next;
-  })
-  at_layer (s.For name from to body) = rolled (s.For name from to (bare body)) (ap (λ (ts : List Stmt). K.roll-StmtKind (s.For name from to ts)) (same_stmts body)) (λ names next. record {
-    binds = refl;
-    count = ap suc (count_stmts body (names ++ name ∷ []));
-    itself = ap (λ (b : CodeBlock). CK.roll-CodeStmtKind (c.For (expression_code spaces names from) (expression_code spaces names to) b)) (itself_block body (names ++ name ∷ []) next);
-    blocks = blocks_block false body (names ++ name ∷ []) next;
-  })
+  at_layer (s.LetFinish name k body) =
+      rolled (s.LetFinish name k (bare body)) (ap (λ (ts : List Stmt). K.roll-StmtKind (s.LetFinish name k ts)) (same_stmts body)) (λ names next. record {
+        binds = refl;
+        count = ap suc (count_stmts body names);
+        itself = ap (λ (b : CodeBlock). CK.roll-CodeStmtKind (c.LetFinish k b)) (itself_block body names next);
+        blocks = blocks_block true body names next;
+      })
+  at_layer (s.For name from to body) =
+      rolled (s.For name from to (bare body)) (ap (λ (ts : List Stmt). K.roll-StmtKind (s.For name from to ts)) (same_stmts body)) (λ names next. record {
+        binds = refl;
+        count = ap suc (count_stmts body (names ++ name ∷ []));
+        itself = ap (λ (b : CodeBlock). CK.roll-CodeStmtKind (c.For (expression_code spaces names from) (expression_code spaces names to) b))
+            (itself_block body (names ++ name ∷ []) next);
+        blocks = blocks_block false body (names ++ name ∷ []) next;
+      })
   at_layer (s.If e first second) = rolled (s.If e (bare first) (bare second))
-      (ap (λ (ts : List Stmt). K.roll-StmtKind (s.If e ts (bare_stmts (sources second)))) (same_stmts first) ∙ ap (λ (ts : List Stmt). K.roll-StmtKind (s.If e (bare first) ts)) (same_stmts second))
+      (ap (λ (ts : List Stmt). K.roll-StmtKind (s.If e ts (bare_stmts (sources second)))) (same_stmts first)
+      ∙ ap (λ (ts : List Stmt). K.roll-StmtKind (s.If e (bare first) ts)) (same_stmts second))
       (λ names next.
       let behind = next + suc (blocks_within (resolved first)) in
       record {
         binds = refl;
         count = if_count first second names;
         itself =
-            ap (λ (b : CodeBlock). CK.roll-CodeStmtKind (c.If (expression_code spaces names e) b (numbered_block (else_code (resolved second) names behind)).itself)) (itself_block first names next)
-            ∙ ap (λ (b : CodeBlock). CK.roll-CodeStmtKind (c.If (expression_code spaces names e) (block_code (resolved first) names next) b)) (itself_else second names behind);
+            ap (λ (b : CodeBlock). CK.roll-CodeStmtKind
+            (c.If (expression_code spaces names e) b (numbered_block (else_code (resolved second) names behind)).itself)) (itself_block first names next)
+            ∙ ap (λ (b : CodeBlock). CK.roll-CodeStmtKind (c.If (expression_code spaces names e) (block_code (resolved first) names next) b))
+            (itself_else second names behind);
         blocks = if_blocks first second names next;
       })
     where
-      if_count : (first second : List StmtWith) (names : Names) → length (block_first false (sources first) names ++ else_first (sources second) names) ≡ suc (blocks_within (resolved first)) + else_blocks (resolved second)
+      if_count : (first second : List StmtWith) (names : Names) → length (block_first false (sources first) names ++ else_first (sources second) names)
+          ≡ suc (blocks_within (resolved first)) + else_blocks (resolved second)
       if_count first second names =
           let a = count_stmts first names in
           let b = count_else second names in
@@ -270,34 +288,40 @@ module _ (spaces : Spaces) where
       if_blocks first second names next =
           let one = block_first false (sources first) names in
           let two = else_first (sources second) names in
-          ap (λ (bs : List CodeBlock). bs ++ code_blocks (else_code (resolved second) names (next + suc (blocks_within (resolved first))))) (blocks_block false first names next)
+          ap (λ (bs : List CodeBlock). bs ++ code_blocks (else_code (resolved second) names (next + suc (blocks_within (resolved first)))))
+          (blocks_block false first names next)
           ∙ ap (λ (bs : List CodeBlock). codes_of_blocks spaces next one ++ bs) (blocks_else second names (next + suc (blocks_within (resolved first))))
           ∙ ap (λ (n : ℕ). codes_of_blocks spaces next one ++ codes_of_blocks spaces (next + suc n) two) (sym (count_stmts first names))
           ∙ sym (codes_append spaces next one two)
 
-  at_kinds : (x : s.StmtKind-F StmtKind Stmt) (y : s.StmtKind-F KindWith StmtWith) → K.map-StmtKind KindWith StmtWith StmtKind Stmt (λ k. k.0) (λ t. t.0) y ≡ x → KindHolds (K.roll-StmtKind x)
+  at_kinds : (x : s.StmtKind-F StmtKind Stmt) (y : s.StmtKind-F KindWith StmtWith) → K.map-StmtKind KindWith StmtWith StmtKind Stmt (λ k. k.0) (λ t. t.0) y
+      ≡ x → KindHolds (K.roll-StmtKind x)
   at_kinds x y e = subst (λ (z : s.StmtKind-F StmtKind Stmt). KindHolds (K.roll-StmtKind z)) e (at_layer y)
 
   at_line : (z : s.Stmt-F StmtKind Stmt) → KindHolds z.what → StmtHolds (S.roll-Stmt z)
   at_line z k =
       let v = kind_with_blocks z.what in
       let q = kind_resolved spaces z.what in
-      let w : stmt_with_blocks (S.roll-Stmt z) ≡ blocks_line_step (record { line = z.line; what = v }) = S.fold-roll-Stmt WK WS blocks_kind_step blocks_line_step z in
-      let r : statement_resolved spaces (S.roll-Stmt z) ≡ resolve_line spaces (record { line = z.line; what = q }) = S.fold-roll-Stmt RK R (resolve_kind spaces) (resolve_line spaces) z in
-      (ap (λ (x : WS). x.itself) w ∙ ap (λ (x : StmtKind). S.roll-Stmt (record { line = z.line; what = x })) k.0,
-      λ names next.
-      let f = k.1 names next in
-      let n = numbered_rolled_line (record { line = z.line; next_block = next; what = q.code names next }) in
-      subst (λ (x : WS). StmtFacts x (statement_resolved spaces (S.roll-Stmt z)) names next) (sym w)
-      (subst (λ (y : R). StmtFacts (blocks_line_step (record { line = z.line; what = v })) y names next) (sym r)
-      (record {
-        binds = f.binds;
-        count = f.count;
-        itself = ap (λ (x : NS). x.itself) n ∙ ap (λ (x : CodeStmtKind). CS.roll-CodeStmt (record { line = z.line; next_block = next; what = x })) f.itself;
-        blocks = ap (λ (x : NS). x.blocks) n ∙ f.blocks;
-      })))
+      let w : stmt_with_blocks (S.roll-Stmt z) ≡ blocks_line_step (record { line = z.line; what = v }) =
+      S.fold-roll-Stmt WK WS blocks_kind_step blocks_line_step z in
+      let r : statement_resolved spaces (S.roll-Stmt z) ≡ resolve_line spaces (record { line = z.line; what = q }) =
+      S.fold-roll-Stmt RK R (resolve_kind spaces) (resolve_line spaces) z in (
+        ap (λ (x : WS). x.itself) w ∙ ap (λ (x : StmtKind). S.roll-Stmt (record { line = z.line; what = x })) k.0,
+        λ names next.
+            let f = k.1 names next in
+            let n = numbered_rolled_line (record { line = z.line; next_block = next; what = q.code names next }) in
+            subst (λ (x : WS). StmtFacts x (statement_resolved spaces (S.roll-Stmt z)) names next) (sym w)
+            (subst (λ (y : R). StmtFacts (blocks_line_step (record { line = z.line; what = v })) y names next) (sym r)
+            (record {
+              binds = f.binds;
+              count = f.count;
+              itself = ap (λ (x : NS). x.itself) n ∙ ap (λ (x : CodeStmtKind). CS.roll-CodeStmt (record { line = z.line; next_block = next; what = x })) f.itself;
+              blocks = ap (λ (x : NS). x.blocks) n ∙ f.blocks;
+            })),
+      )
 
-  at_stmts : (x : s.Stmt-F StmtKind Stmt) (y : s.Stmt-F KindWith StmtWith) → S.map-Stmt KindWith StmtWith StmtKind Stmt (λ k. k.0) (λ t. t.0) y ≡ x → StmtHolds (S.roll-Stmt x)
+  at_stmts : (x : s.Stmt-F StmtKind Stmt) (y : s.Stmt-F KindWith StmtWith) → S.map-Stmt KindWith StmtWith StmtKind Stmt (λ k. k.0) (λ t. t.0) y ≡ x →
+      StmtHolds (S.roll-Stmt x)
   at_stmts x y e = subst (λ (z : s.Stmt-F StmtKind Stmt). StmtHolds (S.roll-Stmt z)) e (at_line (record { line = y.line; what = y.what.0 }) y.what.1)
 
   stmt_facts : (t : Stmt) → StmtHolds t
@@ -320,7 +344,8 @@ module _ (spaces : Spaces) where
       ∙ ap (λ (zs : List Stmt). blocks_of_body spaces zs) (with_all ts)
 
   -- Block for block, those of a body's code are the codes of those of its source, under their numbers.
-  pub body_numbered : (ts : List Stmt) (names : Names) (next : ℕ) → code_blocks (code_of spaces names next ts) ≡ codes_of_blocks spaces next (body_blocks names ts)
+  pub body_numbered : (ts : List Stmt) (names : Names) (next : ℕ) → code_blocks (code_of spaces names next ts) ≡ codes_of_blocks spaces next
+      (body_blocks names ts)
   body_numbered ts names next =
       ap (λ (zs : List Stmt). code_blocks (code_of spaces names next zs)) (sym (with_all ts))
       ∙ blocks_block false (map (λ t. (t, stmt_facts t)) ts) names next
@@ -336,7 +361,8 @@ module _ (spaces : Spaces) where
   item_count (i.Main body) = body_count body []
 
   -- the code of the block at a place
-  pub block_there : (bs : List SourceBlock) (next n : ℕ) (b : SourceBlock) → slice_get bs n ≡ Some b → slice_get (codes_of_blocks spaces next bs) n ≡ Some (code_of spaces b.names (next + n) b.stmts)
+  pub block_there : (bs : List SourceBlock) (next n : ℕ) (b : SourceBlock) → slice_get bs n ≡ Some b → slice_get (codes_of_blocks spaces next bs) n
+      ≡ Some (code_of spaces b.names (next + n) b.stmts)
   block_there [] next n b e = absurd (cc)
   block_there (x ∷ bs) next zero b e =
       ap (λ (o : Option SourceBlock). code_at o next) e ∙ ap (λ (n : ℕ). Some (code_of spaces b.names n b.stmts)) (omega arith)

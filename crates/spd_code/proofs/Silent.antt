@@ -86,11 +86,13 @@ silent_law = record {
   print = λ parts text vars q. absurd (cc);
 }
 
-pub block_silent : (around : Around ℕ) → ((f : ℕ) (args : List ℤ) (line : ℕ) → Silent (around.calls.function f args line).given) → (b : CodeBlock) → silent_block b ≡ true →
+pub block_silent : (around : Around ℕ) → ((f : ℕ) (args : List ℤ) (line : ℕ) → Silent (around.calls.function f args line).given) → (b : CodeBlock) →
+    silent_block b ≡ true →
     (vars : List ℤ) → Silent (eval_block around b vars).given
 unfolding silent_block guarded_block
 block_silent around h b q vars =
-    let calls : CallsLaw silent_step any_line SilentReturned around.calls = record { function = λ f args line l. h f args line; task = λ t es args line z l. absurd (cc) } in
+    let calls : CallsLaw silent_step any_line SilentReturned around.calls =
+    record { function = λ f args line l. h f args line; task = λ t es args line z l. absurd (cc) } in
     block_law silent_step any_line AnyFault SilentEval SilentReturned silent_law any_fault around calls b q vars
 
 -- A function says nothing, whose block and all other functions' do not.
@@ -106,7 +108,8 @@ collected_behind g x h =
     ap (λ os. collect kind.Sum (nothing kind.Sum) os (codes_of (g ++ x))) (flat_map-append offer_in g x ∙ ap (λ (xs : List ℤ). xs ++ offers_of x) h.offers)
     ∙ ap (λ cs. collect kind.Sum (nothing kind.Sum) (offers_of x) cs) (flat_map-append code_in g x ∙ ap (λ (xs : List ℕ). xs ++ codes_of x) h.codes)
 
-back_total : (e : End ℤ) → collected kind.Sum (nothing kind.Sum) (offer_back (value_back e) ++ end_codes (call_end {A = ℤ} (λ v. []) (value_back e))) ≡ total_back (value_back e)
+back_total : (e : End ℤ) → collected kind.Sum (nothing kind.Sum) (offer_back (value_back e) ++ end_codes (call_end {A = ℤ} (λ v. []) (value_back e)))
+    ≡ total_back (value_back e)
 back_total (Fell vars) = ap (λ (n : ℤ). record { gift = n; fault = no_fault }) (identity_join kind.Sum)
 back_total (Back v) = ap (λ (n : ℤ). record { gift = n; fault = no_fault }) (int_wrap-add_right w64 (pos 0) v ∙ ap (int_wrap w64) (omega (arith, ints)))
 back_total (Fault c) = let l : min no_fault (min c no_fault) ≡ min c no_fault = omega arith in ap (λ (n : ℕ). record { gift = pos 0; fault = n }) l
@@ -115,4 +118,5 @@ pub call_total : (a : Eval ℤ) → Silent a.given → job_total kind.Sum (back_
 call_total a h =
     let x = offer_back (value_back a.end) in
     let y = end_codes (call_end {A = ℤ} (λ v. []) (value_back a.end)) in
-    ap (λ (g : Acts). settle (collected kind.Sum (nothing kind.Sum) g)) (append_assoc a.given x y) ∙ ap settle (collected_behind a.given (x ++ y) h ∙ back_total a.end)
+    ap (λ (g : Acts). settle (collected kind.Sum (nothing kind.Sum) g)) (append_assoc a.given x y)
+    ∙ ap settle (collected_behind a.given (x ++ y) h ∙ back_total a.end)
