@@ -9,7 +9,6 @@ use Rattle.spd_meaning.specs.Acts.{Acts, Async, Call, Finish, Begin, Over, Tick,
 use Rattle.spd_meaning.specs.Eval.{End, Fell, Back, Fault, Eval, Returned, quiet, before, go_on, then_do, counted, cut, cut_end, turns, end_codes, with_value, with_values, with_line, async_of, finish_of, finish_end, for_finish, collected, returned, value_back, call_of, call_end}
 use Rattle.spd_code.specs.Alike.{names_of, values_of, valued_end, valued, EndsWith, Alike}
 use Rattle.spd_code.proofs.Places.{taken, taken_names, as_many, cut_back}
-use Rattle.spd_meaning.specs.Meaning.{value}
 
 -- ---- sequence
 

@@ -10,11 +10,9 @@ use Rattle.spd_syntax.specs.declared.tree.Stmt.{Stmt}
 use Rattle.spd_syntax.specs.declared.tree.Stmt as S
 use Rattle.spd_code.specs.declared.stmt.CodeStmtKind.{CodeStmtKind}
 use Rattle.spd_code.specs.declared.stmt.CodeStmtKind as CK
-use Rattle.spd_code.specs.declared.stmt.CodeStmtKind.TheOpen as c
 use Rattle.spd_code.specs.declared.stmt.CodeStmt.{CodeStmt}
 use Rattle.spd_code.specs.declared.stmt.CodeStmt as CS
 use Rattle.spd_code.specs.declared.stmt.CodeBlock.{CodeBlock}
-use Rattle.spd_code.specs.declared.stmt.CodeBlock as CB
 use Rattle.spd_meaning.specs.Names.{Name, Names, binds, Entry, Env, bind, assign}
 use Rattle.spd_code.specs.Places.{place_of, put_at, bind_if}
 use Rattle.spd_code.specs.Resolved.{Spaces, Resolved, expression_code, statements_code, block_code, else_code, kind_code, statement_resolved, kind_resolved, code_of, resolve_kind, resolve_line}
@@ -22,7 +20,7 @@ use Rattle.spd_meaning.specs.Acts.{Acts, Offer, Line, Tick}
 use Rattle.spd_meaning.specs.Eval.{Fell, Eval, quiet, before, counted, cut, turns_to}
 use Rattle.spd_meaning.specs.Values.{Around, ValueOrFault, all_values, all_texts, is_true}
 use Rattle.spd_meaning.specs.Meaning.{chosen, collecting, value, run, Run, Deed, deed_step, run_step, part_value, stmt_meaning, kind_meaning, block_meaning}
-use Rattle.spd_code.specs.Coded.{eval_block, eval_stmt, eval_kind, code_value, CodeRun, CodeDeed, run_code, code_deed_step, code_run_step, code_block_step}
+use Rattle.spd_code.specs.Coded.{eval_block, eval_stmt, eval_kind, code_value, CodeRun, CodeDeed, run_code, code_deed_step}
 use Rattle.spd_code.specs.Alike.{names_of, values_of, Alike, AroundAlike}
 use Rattle.spd_code.proofs.Places.{bound, bound_names, assigned, assigned_names}
 use Rattle.spd_code.proofs.Alike.{alike_then, alike_before, alike_cut, alike_turns, alike_async, alike_finish, alike_call, alike_value, alike_values, alike_text}

@@ -1,5 +1,5 @@
 -- The faults of an expression: a division by zero or an index out of range, at the line of its statement.
-use Rattle.std.proofs.Common.{◌≡◌, ℕ, ◌+◌, ◌*◌, List, [], ◌∷◌, sym, subst, ℤ, Result, Ok, Err, true, false, if◌then◌else◌, Option, Some, None}
+use Rattle.std.proofs.Common.{ℕ, List, [], ◌∷◌, sym, subst, ℤ, Result, Ok, Err, true, false, if◌then◌else◌, Option, Some, None}
 use Rattle.std.specs.Prelude.{map}
 use Rattle.spd_syntax.specs.declared.tree.UnOp.{UnOp}
 use Rattle.spd_syntax.specs.declared.tree.UnOp.TheVariants as u

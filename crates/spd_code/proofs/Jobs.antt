@@ -1,10 +1,10 @@
 -- Pieces are nested in what a code gives, so a finish and a call that main meets are one job each.
-use Rattle.std.proofs.Common.{◌≡◌, ℕ, List, [], ◌∷◌, ◌++◌, ◌∙◌, ap, ℤ, true}
+use Rattle.std.proofs.Common.{◌≡◌, ℕ, List, ◌∷◌, ◌++◌, ◌∙◌, ap, ℤ}
 use Rattle.spd_words.specs.declared.finish_kind.FinishKind.TheVariants as kind
 use Rattle.spd_code.specs.declared.stmt.CodeBlock.{CodeBlock}
 use Rattle.spd_code.specs.declared.tree.CodeItem.{CodeItem}
 use Rattle.spd_meaning.specs.Acts.{Acts, Begin, Over, Finish, Call, passed, moves_of, jobs_of}
-use Rattle.spd_meaning.specs.Eval.{Eval, Returned}
+use Rattle.spd_meaning.specs.Eval.{Returned}
 use Rattle.spd_meaning.specs.Meaning.{collecting}
 use Rattle.spd_meaning.proofs.Hearing.{passed_moves}
 use Rattle.spd_meaning.proofs.Nesting.{Nested, Nests, nested_none, nested_tick, nested_offer, nested_line, nested_passed, nests_then, nests_async, nests_finish, nests_call, one_job}

@@ -1,11 +1,9 @@
 -- What a job has by places is what it has by names.
-use Rattle.std.proofs.Common.{◌≡◌, ℕ, zero, suc, List, [], ◌∷◌, ◌++◌, length, refl, sym, ◌∙◌, ap, arith, ℤ, pos}
+use Rattle.std.proofs.Common.{◌≡◌, ℕ, zero, suc, List, [], ◌∷◌, ◌++◌, length, refl, sym, ◌∙◌, ap, arith, ℤ}
 use Rattle.spd_syntax.specs.declared.tree.Item.{Item}
 use Rattle.spd_words.specs.Total.{nothing, settle}
 use Rattle.spd_words.specs.declared.finish_kind.FinishKind.{FinishKind}
 use Rattle.spd_words.specs.declared.finish_kind.FinishKind.TheVariants as kind
-use Rattle.spd_code.specs.declared.stmt.CodeBlock.{CodeBlock}
-use Rattle.spd_code.specs.declared.tree.CodeItem.{CodeItem}
 use Rattle.spd_meaning.specs.Acts.{Acts}
 use Rattle.spd_meaning.specs.Eval.{End, Fell, Back, Fault, Eval, Returned, collected, end_codes, back_offered, job_total}
 use Rattle.spd_meaning.specs.Values.{ColumnView}
@@ -17,7 +15,7 @@ use Rattle.spd_meaning.specs.Jobs.{block_result, call_result, total_back}
 use Rattle.spd_meaning.specs.Standing.{StandWell}
 use Rattle.spd_code.specs.Places.{fitted}
 use Rattle.spd_code.specs.Resolved.{spaces_of, code_of}
-use Rattle.spd_code.specs.Coded.{Context, around_of, eval_block, item_at, item_returned}
+use Rattle.spd_code.specs.Coded.{Context, around_of, eval_block, item_at}
 use Rattle.spd_code.specs.Alike.{names_of, values_of, valued, valued_end, IsItem, IsCode, AreColumns}
 use Rattle.spd_code.proofs.Places.{entered, entered_names}
 use Rattle.spd_code.proofs.AlikeTrees.{alike_code}

@@ -16,7 +16,7 @@ use Rattle.spd_meaning.specs.Acts.{Offer, Line}
 use Rattle.spd_meaning.specs.Eval.{Fell, Back, Fault, Eval, Returned, quiet, before, then_do, counted, with_value, with_values, with_line, cut, turns, turns_to, async_of, finish_of, returned, call_of}
 use Rattle.spd_meaning.specs.Values.{Around, Callees, division_by_zero, out_of_range, too_deep, all_values, all_texts, is_true}
 use Rattle.spd_meaning.specs.Meaning.{collecting}
-use Rattle.spd_code.specs.Places.{put_at, fitted, bind_if}
+use Rattle.spd_code.specs.Places.{fitted, bind_if}
 use Rattle.spd_code.specs.Coded.{Context, CodeRun, CodeDeed, run_code, code_value, code_part_value, code_deed_step, eval_block, eval_stmt, eval_kind, around_of, calls_of, item_at}
 use Rattle.spd_code.specs.Silent.{all_true}
 use Rattle.spd_code.proofs.Lists.{map_map, true_both, both_true}

@@ -1,5 +1,5 @@
 -- A block is the run of its statements, and each statement is a step of its kind.
-use Rattle.std.proofs.Common.{◌≡◌, ℕ, List, refl, ◌∙◌, ap, ℤ, pos, Ok, Some, []}
+use Rattle.std.proofs.Common.{◌≡◌, ℕ, List, ◌∙◌, ap, ℤ, pos, Ok, Some, []}
 use Rattle.std.specs.Prelude.{map}
 use Rattle.spd_code.specs.declared.stmt.CodeBlock.{CodeBlock, out-CodeBlock, fold_out-CodeBlock, roll-CodeBlock, fold-roll-CodeBlock}
 use Rattle.spd_code.specs.declared.stmt.CodeStmt.{CodeStmt, fold_out-CodeStmt, roll-CodeStmt, fold-roll-CodeStmt}

@@ -1,5 +1,5 @@
 -- No code that an evaluation gives is want of memory.
-use Rattle.std.proofs.Common.{◌≡◌, ◌≢◌, ℕ, ◌+◌, ◌*◌, List, [], ◌∷◌, ◌++◌, refl, sym, ◌∙◌, ap, subst, arith, ℤ, Result, Ok, Err, true, false, if◌then◌else◌}
+use Rattle.std.proofs.Common.{◌≡◌, ◌≢◌, ℕ, List, [], ◌∷◌, ◌++◌, sym, ◌∙◌, ap, subst, arith, ℤ, Result, Ok, Err, true, false, if◌then◌else◌}
 use Rattle.std.specs.Prelude.{min, ◌==◌}
 use Rattle.std.proofs.lemmas.Grind.{flat_map-append}
 use Rattle.spd_words.specs.Gift.{least, no_fault}
@@ -10,11 +10,12 @@ use Rattle.spd_words.proofs.Joins.{least-append}
 use Rattle.spd_code.specs.declared.stmt.CodeBlock.{CodeBlock}
 use Rattle.spd_meaning.specs.Acts.{Acts, Over, code_in, codes_of, passed}
 use Rattle.spd_meaning.specs.Eval.{End, Fell, Back, Fault, Eval, Returned, quiet, go_on, cut, cut_end, end_codes, for_finish, async_of, collected, finish_of, call_of, call_end, value_back, returned, offer_back, back_offered}
+use Rattle.spd_meaning.specs.Values.{Around}
 use Rattle.spd_meaning.specs.Meaning.{collecting}
 use Rattle.spd_meaning.proofs.Hearing.{passed_codes}
-use Rattle.spd_code.specs.Coded.{Context, CodeRun, eval_block, around_of}
+use Rattle.spd_code.specs.Coded.{Context, CodeRun, eval_block, around_of, calls_of}
 use Rattle.spd_code.proofs.Faulting.{OnFault}
-use Rattle.spd_code.proofs.Laws.{Law, FaultsLaw, anything, any_line, any_block, block_law, calls_law}
+use Rattle.spd_code.proofs.Laws.{Law, FaultsLaw, CallsLaw, anything, any_line, any_block, block_law, calls_law}
 
 -- ---- ends
 
@@ -125,14 +126,17 @@ never_law = record {
 never_faults : FaultsLaw any_line NoZero
 never_faults = record { by_zero = λ line l. omega arith; beyond = λ line l. omega arith; deep = λ line l. omega arith }
 
-pub block_never : (context : Context) (left : ℕ) (b : CodeBlock) (vars : List ℤ) → Never (eval_block (around_of context left) b vars)
-block_never context left b vars =
-    let calls = calls_law anything any_line NoZero Never ReturnsWell never_law never_faults context (λ f. any_block _) (λ t es q. any_block _) left in
-    block_law anything any_line NoZero Never ReturnsWell never_law never_faults (around_of context left) calls b (any_block b) vars
+pub block_never : (around : Around ℕ) → CallsLaw anything any_line ReturnsWell around.calls → (b : CodeBlock) (vars : List ℤ) → Never (eval_block around b vars)
+block_never around h b vars = block_law anything any_line NoZero Never ReturnsWell never_law never_faults around h b (any_block b) vars
+
+pub around_never : (context : Context) (left : ℕ) → CallsLaw anything any_line ReturnsWell (calls_of context left)
+around_never context left =
+    calls_law anything any_line NoZero Never ReturnsWell never_law never_faults context (λ f. any_block _) (λ t es q. any_block _) left
 
 -- at every depth
 pub never : (context : Context) (left : ℕ) (b : CodeBlock) (vars : List ℤ) → least (codes_of (for_finish (eval_block (around_of context left) b vars))) ≢ 0
-never context left b vars = finish_never (eval_block (around_of context left) b vars) (block_never context left b vars)
+never context left b vars =
+    finish_never (eval_block (around_of context left) b vars) (block_never (around_of context left) (around_never context left) b vars)
 
 -- a job that is a call
 pub back_never : (a : Eval ℤ) → Never a → least (codes_of (for_finish (back_offered a))) ≢ 0

@@ -1,7 +1,6 @@
 -- A block's number is its place among the blocks of the program: the n-th block of a code is the code of the n-th block of its source.
 use Rattle.std.proofs.Common.{◌≡◌, ℕ, zero, suc, ◌+◌, List, [], ◌∷◌, ◌++◌, length, refl, sym, ◌∙◌, ap, subst, arith}
 use Rattle.std.specs.Prelude.{map, Bool, true, false, Option, Some, None, slice_get}
-use Rattle.std.specs.List.{flat_map}
 use Rattle.spd_syntax.specs.declared.tree.StmtKind.{StmtKind}
 use Rattle.spd_syntax.specs.declared.tree.StmtKind as K
 use Rattle.spd_syntax.specs.declared.tree.StmtKind.TheOpen as s
@@ -18,7 +17,7 @@ use Rattle.spd_code.specs.declared.stmt.CodeBlock as CB
 use Rattle.spd_meaning.specs.Names.{Names, binds}
 use Rattle.spd_meaning.specs.Blocks.{SourceBlock, WithBlocks, blocks_of_stmts, bare_stmts, block_first, else_first, blocks_of_kind, blocks_kind_step, blocks_line_step, stmt_with_blocks, kind_with_blocks, body_blocks, blocks_of_item}
 use Rattle.spd_code.specs.Resolved.{Spaces, Resolved, expression_code, resolve_kind, resolve_line, kind_code, kind_blocks, block_code, else_code, else_blocks, statements_code, blocks_within, statement_resolved, kind_resolved, code_of, blocks_of_body, item_blocks}
-use Rattle.spd_code.specs.CodeBlocks.{Numbered, blocks_in_kind, blocks_in_stmts, if_numbered, number_kind, number_stmt, number_block, numbered_block, numbered_stmt, numbered_kind, code_blocks, codes_of_blocks}
+use Rattle.spd_code.specs.CodeBlocks.{Numbered, blocks_in_kind, blocks_in_stmts, number_kind, number_stmt, number_block, numbered_block, numbered_stmt, numbered_kind, code_blocks, codes_of_blocks}
 
 -- ---- lists
 

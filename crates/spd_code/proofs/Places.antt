@@ -7,7 +7,6 @@ use Rattle.std.proofs.Math.Seq.{take-append_seam}
 use Rattle.spd_meaning.specs.Names.{Name, Names, Entry, Env, bind, look_up, assign, enter}
 use Rattle.spd_code.specs.Places.{place_of, value_at, put_at, fitted}
 use Rattle.spd_code.specs.Alike.{names_of, values_of}
-use Rattle.spd_meaning.specs.Meaning.{value}
 
 pub looked : (env : Env) (name : Name) → look_up env name ≡ value_at (values_of env) (place_of (names_of env) name)
 looked [] name = refl

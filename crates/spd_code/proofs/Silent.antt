@@ -1,5 +1,5 @@
 -- What a function gives says nothing to a finish around it, so a job that is a call has the value that came back.
-use Rattle.std.proofs.Common.{◌≡◌, ℕ, suc, List, [], ◌∷◌, ◌++◌, refl, sym, ◌∙◌, ap, arith, append_assoc, ℤ, true}
+use Rattle.std.proofs.Common.{◌≡◌, ℕ, List, [], ◌∷◌, ◌++◌, refl, ◌∙◌, ap, arith, append_assoc, ℤ, true}
 use Rattle.std.specs.Prelude.{min, pos}
 use Rattle.std.specs.Int.{w64, int_wrap}
 use Rattle.std.proofs.lemmas.Int.{ints, int_wrap-add_right}
@@ -16,7 +16,7 @@ use Rattle.spd_meaning.specs.Values.{Around}
 use Rattle.spd_meaning.specs.Meaning.{collecting}
 use Rattle.spd_meaning.specs.Jobs.{total_back}
 use Rattle.spd_meaning.proofs.Hearing.{passed_offers, passed_codes, passed_lines}
-use Rattle.spd_code.specs.Coded.{Context, CodeRun, eval_block, around_of, calls_of, item_at}
+use Rattle.spd_code.specs.Coded.{Context, CodeRun, eval_block, calls_of, item_at}
 use Rattle.spd_code.specs.Silent.{silent_step, silent_block}
 use Rattle.spd_code.proofs.Lists.{true_both}
 use Rattle.spd_code.proofs.Laws.{Law, FaultsLaw, CallsLaw, guarded_block, any_line, block_law, calls_law}
