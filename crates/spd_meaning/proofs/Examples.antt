@@ -1,5 +1,5 @@
 -- The definitions on small examples, whose values are worked out by hand.
-use Rattle.std.proofs.Common.{◌≡◌, ℕ, List, [], ◌∷◌, ◌++◌, refl, ℤ, pos, Ok, Err, Some, None}
+use Rattle.std.proofs.Common.{◌≡◌, [], ◌∷◌, ◌++◌, refl, ℤ, pos, Ok, Err, Some, None}
 use Rattle.std.specs.Prelude.{negsuc, if◌then◌else◌}
 use Rattle.std.specs.Ordering.{int_eq}
 use Rattle.std.specs.Int.{int_wrap}
@@ -9,7 +9,7 @@ use Rattle.spd_syntax.specs.declared.tree.BinOp.TheVariants as b
 use Rattle.spd_meaning.specs.Acts.{Async, Finish, Call, Offer, Code, Begin, Over, Tick, Line, heard, jobs_from, jobs_of, lines_of, moves_of}
 use Rattle.spd_meaning.specs.Eval.{Eval, Fell, Back, Fault, quiet, async_of, finish_of, call_of, returned, turns, turns_to, back_offered, job_total}
 use Rattle.spd_meaning.specs.Values.{ColumnView, apply_unary, apply_binary, operated, entry_number, entry_size, entry_byte, entry_same, entry_begins}
-use Rattle.spd_meaning.specs.Names.{Entry, Env, bind, look_up, assign, enter}
+use Rattle.spd_meaning.specs.Names.{Env, look_up, assign, enter}
 
 -- ---- operators, at line 9
 
