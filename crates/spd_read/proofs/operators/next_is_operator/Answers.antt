@@ -1,7 +1,7 @@
 use Rattle.std.proofs.Common.{sym, ◌∙◌, ap, Some}
 use Rattle.spd_syntax.specs.declared.token.TokenKind.{TokenKind}
-use Rattle.spd_read.proofs.Operators.{next_is}
-use Rattle.spd_read.proofs.expressions.next_is_operator.Goals as goal
+use Rattle.spd_read.proofs.OperatorRows.{next_is}
+use Rattle.spd_read.proofs.operators.next_is_operator.Goals as goal
 
 pub returns-in-Some-Mark : goal.returns-in-Some-Mark
 returns-in-Some-Mark c text =

@@ -1,7 +1,7 @@
 use Rattle.std.proofs.Common.{◌+◌, ◌-◌, ◌*◌, ◌<◌, get_or, arith}
 use Rattle.spd_syntax.specs.Symbols.{greatest_literal}
 use Rattle.spd_read.proofs.Numbers.{too_great}
-use Rattle.spd_read.proofs.expressions.value.Goals as goal
+use Rattle.spd_read.proofs.literals.value.Goals as goal
 
 pub returns-in_err-checked_mul : goal.returns-in_err-checked_mul
 returns-in_err-checked_mul c =
