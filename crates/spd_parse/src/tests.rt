@@ -26,12 +26,14 @@ const PROGRAMS: [&[u8]; 16] = [
 ];
 
 /// Texts, and their first fault.
-const FAULTS: [(&[u8], ParseKind, u32); 33] = [
+const FAULTS: [(&[u8], ParseKind, u32); 35] = [
     (b"x", ParseKind::Expected, 1),
     (b"\n\nmain {\n", ParseKind::Expected, 3),
     (b"main {\n print 1\n\n", ParseKind::Expected, 2),
     (b"main {\n print 1\n}", ParseKind::Expected, 3),
     (b"main { }\n}", ParseKind::Expected, 2),
+    (b"main { }\n}\n}", ParseKind::Expected, 2),
+    (b"main { }\nx\nmain\n{ }", ParseKind::Expected, 2),
     (b"main { print ; }", ParseKind::Expected, 1),
     (b"main { print 1,\n; }", ParseKind::Expected, 2),
     (b"main { print a <\nb\n< c; }", ParseKind::Expected, 3),
@@ -187,6 +189,69 @@ const LIMITS: [(&[u8], &[u8], u32, &[u8], &[u8], &[u8], ParseKind, u32); 10] = [
     ),
 ];
 
+/// Texts of two faults, and the first: what stands in front, a piece, how often it stands there, and what stands behind.
+const TWO_FAULTS: [(&[u8], &[u8], u32, &[u8], ParseKind, u32); 7] = [
+    // one too many, and then a fault of another kind
+    (
+        b"",
+        b"lines l from \"\";\n",
+        17,
+        b"}",
+        ParseKind::TooMany,
+        17,
+    ),
+    (
+        b"main {\n",
+        b"let a = 1;\n",
+        65,
+        b"print 9223372036854775808; }",
+        ParseKind::TooMany,
+        66,
+    ),
+    (
+        b"main { print 0",
+        b"\n+ 1",
+        1001,
+        b"\n; print ((((((((((((((((((((((((((((((((1",
+        ParseKind::TooMany,
+        1002,
+    ),
+    // a fault of another kind, and then one too many
+    (
+        b"}\n",
+        b"lines l from \"\";\n",
+        17,
+        b"",
+        ParseKind::Expected,
+        1,
+    ),
+    (
+        b"main { print 9223372036854775808; }\n",
+        b"lines l from \"\";\n",
+        17,
+        b"",
+        ParseKind::Literal,
+        1,
+    ),
+    (
+        b"main { print\n((((((((((((((((((((((((((((((((1",
+        b"\n+ 1",
+        1001,
+        b"",
+        ParseKind::TooDeep,
+        2,
+    ),
+    // both at one token
+    (
+        b"main { print 0",
+        b"\n+ 1",
+        999,
+        b"\n+\n* 1; }",
+        ParseKind::Expected,
+        1002,
+    ),
+];
+
 /// The first fault of a text, if it is no program.
 fn fault_of(alloc: Global, text: &[u8]) -> Result<Option<ParseFault>, Fail> {
     let tokens = lex(alloc, text)?;
@@ -234,6 +299,24 @@ fn limits_are_kept(rt: HostRuntime) -> Result<(), Fail> {
                 "with {more} more of {piece:?}"
             );
         }
+    }
+    Ok(())
+}
+
+#[test]
+fn of_two_faults_the_first_is_answered(rt: HostRuntime) -> Result<(), Fail> {
+    for (front, piece, times, back, kind, line) in TWO_FAULTS {
+        let mut text = Vec::new(rt.alloc());
+        text.extend_from_slice(front)?;
+        for _ in 0..times {
+            text.extend_from_slice(piece)?;
+        }
+        text.extend_from_slice(back)?;
+        assert_eq!(rt;
+            fault_of(rt.alloc(), text.as_slice())?,
+            Some(ParseFault { line, kind }),
+            "of {times} pieces {piece:?}"
+        );
     }
     Ok(())
 }
