@@ -13,5 +13,7 @@ pub returns-in_err-value : goal.returns-in_err-value
 returns-in_err-value c =
     let not_fits = c.in_err-value.ensures in
     let product = c.in_ok-checked_mul.ensures in
-    let large : greatest_literal < c.loop-digit.value * 10 + (get_or c.args.digits.now c.loop-digit.digit-index 0 - 48) = omega (arith, not_fits, product.1, c.saturating_sub.ensures, c.from-digit.ensures) in
-    rw c.from_residual-in_err-value.ensures (too_great c.loop-digit.value c.args.digits.now c.loop-digit.digit-index _ c.loop-digit-test.true large c.loop-digit.invariant)
+    let large : greatest_literal < c.loop-digit.value * 10 + (get_or c.args.digits.now c.loop-digit.digit-index 0 - 48) =
+    omega (arith, not_fits, product.1, c.saturating_sub.ensures, c.from-digit.ensures) in
+    rw c.from_residual-in_err-value.ensures (too_great c.loop-digit.value c.args.digits.now c.loop-digit.digit-index _ c.loop-digit-test.true large
+    c.loop-digit.invariant)

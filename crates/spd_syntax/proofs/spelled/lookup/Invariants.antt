@@ -1,6 +1,6 @@
 use Rattle.std.proofs.Common.{◌≡◌, length, map}
 use Rattle.spd_syntax.specs.Tokens.{lookup}
-use Rattle.spd_syntax.proofs.lexing.lookup.Given as goal
+use Rattle.spd_syntax.proofs.spelled.lookup.Given as goal
 
 abbrev pub invariant-loop-table : goal.invariant-loop-table
 invariant-loop-table g l =
