@@ -18,7 +18,7 @@ use Rattle.spd_canonical.specs.Canonical.{between_marks, in_parens, with_commas,
 use Rattle.spd_canonical.proofs.Equations as q
 use Rattle.spd_canonical.proofs.SameCounts.{same_as}
 use Rattle.spd_canonical.proofs.Says.{symbols, says_token, All, all_token}
-use Rattle.spd_canonical.proofs.AgainOperators.{name_symbol}
+use Rattle.spd_canonical.proofs.KindSymbols.{name_symbol}
 use Rattle.spd_canonical.proofs.AgainPrimaries.{symbols_in, Good}
 use Rattle.spd_canonical.proofs.Again.{Very, Whatever, Again, all_so, again_both, again_map, again_drop, again_either, again_nest, AreWord, AreMark, AreName, AreText, AreExpression, again_word, again_mark, again_name, again_text, AreSome, again_separated}
 use Rattle.spd_canonical.proofs.Alike.{AlikeStmt, AlikeBlock, alike_by, very_alike}

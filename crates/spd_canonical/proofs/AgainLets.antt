@@ -20,7 +20,7 @@ use Rattle.spd_canonical.specs.Lines.{statement_but_lines, block_but_lines}
 use Rattle.spd_canonical.proofs.Equations as q
 use Rattle.spd_canonical.proofs.SameCounts.{SameCounts, same_self, same_as, same_then, same_both, same_else}
 use Rattle.spd_canonical.proofs.Says.{symbols, Says, says_so, says_as, says_give, says_both, says_first, says_second, says_token, All, all_give, all_both, all_either, all_token}
-use Rattle.spd_canonical.proofs.AgainOperators.{word_symbol}
+use Rattle.spd_canonical.proofs.KindSymbols.{word_symbol}
 use Rattle.spd_canonical.proofs.AgainPrimaries.{symbols_in, Good}
 use Rattle.spd_canonical.proofs.Again.{Very, Whatever, Again, all_so, again_give, again_both, again_map, again_drop, again_skip, again_either, again_folds, AreWord, AreMark, AreName, AreExpression, again_word, again_mark, again_name}
 use Rattle.spd_syntax.proofs.LetForms.{call_form, value_form, let_forms, to_forms, from_forms}

@@ -25,7 +25,8 @@ use Rattle.spd_canonical.proofs.Says.{symbols, says_as, SaysBy, SpellsSo, Says, 
 use Rattle.spd_syntax.specs.declared.tree.Stmt.{Stmt}
 use Rattle.spd_canonical.specs.Canonical.{statement_symbols}
 use Rattle.spd_canonical.proofs.Alike.{AlikeBlock}
-use Rattle.spd_canonical.proofs.AgainOperators.{Is, word_symbol, mark_symbol, name_symbol, number_symbol, lit_symbol, Own, IsOperand, own_as, bare, says_operand, low_operand, raise_operand, operand_counts, all_expression}
+use Rattle.spd_canonical.proofs.KindSymbols.{word_symbol, mark_symbol, name_symbol, number_symbol, lit_symbol}
+use Rattle.spd_canonical.proofs.AgainOperators.{Is, Own, IsOperand, own_as, bare, says_operand, low_operand, raise_operand, operand_counts, all_expression}
 
 -- ---- counts of one symbol
 

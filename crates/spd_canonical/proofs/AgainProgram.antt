@@ -15,7 +15,7 @@ use Rattle.spd_syntax.specs.Shapes.{◌◃◌, ◌⊛◌, ◌⊲◌, word, mark,
 use Rattle.spd_canonical.specs.Canonical.{between_marks, in_parens, with_commas, name_symbols, block_symbols, in_braces}
 use Rattle.spd_canonical.proofs.SameCounts.{SameCounts, same_as}
 use Rattle.spd_canonical.proofs.Says.{symbols, SaysBy, Says, says_token, All, all_token}
-use Rattle.spd_canonical.proofs.AgainOperators.{word_symbol}
+use Rattle.spd_canonical.proofs.KindSymbols.{word_symbol}
 use Rattle.spd_canonical.proofs.AgainPrimaries.{all_expressions, symbols_in, Kept, Good}
 use Rattle.spd_canonical.proofs.Again.{Very, Whatever, Again, again_give, again_both, again_map, again_drop, again_either, again_folds, again_nest, AreWord, AreMark, AreName, AreText, again_word, again_mark, again_name, again_text}
 use Rattle.spd_canonical.proofs.Alike.{AlikeBlock, AlikeItem, AlikeProgram}

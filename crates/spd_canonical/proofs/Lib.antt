@@ -4,7 +4,8 @@
 --   a lemma for each form of shape (Says, Again), a chain for each construct (AgainOperators to AgainProgram; what the grammar
 --   reads by one token goes form by form, `spd_syntax/proofs/LetForms.antt`), tied by the depth of brackets. Alike: but for lines.
 --   SameCounts: the counted limits. Nesting: the bound of brackets in a spelling and the limit that its tokens keep are the same.
---   Lawful: numbers and strings. CutAgain, LaidAgain: a layout of any lawful symbols is cut into these. ReadAgain: all of it.
+--   Lawful: numbers and strings. KindSymbols: what a symbol of a kind is. CutAgain, LaidAgain: a layout of any lawful symbols is
+--   cut into these. ReadAgain: all of it.
 pub mod Nesting
 pub mod Pages
 pub mod Equations
@@ -12,6 +13,7 @@ pub mod Says
 pub mod SameCounts
 pub mod Lawful
 pub mod Alike
+pub mod KindSymbols
 pub mod AgainOperators
 pub mod AgainPrimaries
 pub mod Again

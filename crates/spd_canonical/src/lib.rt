@@ -10,6 +10,3 @@ mod print_statements;
 mod printing;
 
 pub use printing::print_program;
-
-#[cfg(test)]
-mod print_tests;

@@ -1,13 +1,10 @@
 // Reading expressions.
 
-ghost use Rattle.std.specs.Prelude.{◌≡◌, ◌≤◌, ◌<◌, ◌+◌, ◌==◌, ℕ, List, true, false, [], ◌∷◌, length, MatchOption, pos, nat_le};
-ghost use Rattle.spd_syntax.specs.Symbols.{all_seen, kind_of, same_kind, value_of, greatest_literal};
-ghost use Rattle.spd_syntax.specs.Tokens.{seen};
-ghost use Rattle.spd_read.specs.Reading.{next_in, reads_at, applied, step, loops, grouped_at};
-ghost use Rattle.spd_syntax.specs.Grammar.{literal, behind_name, name_led, parens, len_of, size_of, at_of, same_of, begins_of, nameless, primary, unary_operator, signed, unary, nameless_unary, comparisons, operators, operator_in, operator, operation, into, behind_operand, at_level, nameless_expression, expression, place, two_places, place_text};
+ghost use Rattle.std.specs.Prelude.{◌≤◌, ◌<◌, ◌+◌, ◌==◌};
+ghost use Rattle.spd_syntax.specs.Symbols.{all_seen};
+ghost use Rattle.spd_syntax.specs.Grammar.{behind_name, name_led, parens, len_of, size_of, at_of, same_of, begins_of, nameless, primary, signed, unary, nameless_unary, comparisons, operators, operation, into, behind_operand, at_level, nameless_expression, expression, place, two_places, place_text};
+ghost use Rattle.spd_read.specs.Reading.{reads_at, applied, step, loops, grouped_at};
 ghost use Rattle.spd_read.specs.Gives.{Gives};
-ghost use Rattle.spd_syntax.specs.declared.token.TokenKind.TheVariants as kinds;
-ghost use Rattle.spd_syntax.specs.declared.operators.TheConstants.{OPERATORS};
 
 use crate::held::Held;
 use crate::literals::literal;

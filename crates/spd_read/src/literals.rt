@@ -1,6 +1,6 @@
 // Reading numbers.
 
-ghost use Rattle.std.specs.Prelude.{◌≡◌, ℕ, List, true, false, MatchOption, pos, nat_le};
+ghost use Rattle.std.specs.Prelude.{◌≡◌, ℕ, true, false, MatchOption, pos, nat_le};
 ghost use Rattle.spd_syntax.specs.Symbols.{all_seen, value_of, greatest_literal};
 ghost use Rattle.spd_syntax.specs.Grammar.{literal};
 ghost use Rattle.spd_read.specs.Reading.{reads_at};

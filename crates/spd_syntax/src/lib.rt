@@ -20,6 +20,3 @@ pub use tree::{
     BinOp, Block, Collect, Expr, Exprs, Item, ItemKind, Items, Lit, Name, Names, Parts, PrintPart,
     Program, Stmt, StmtKind, UnOp,
 };
-
-#[cfg(test)]
-mod tests;

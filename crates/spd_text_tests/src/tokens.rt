@@ -1,6 +1,6 @@
 // Texts with their tokens, or the first fault of each.
 
-use crate::{LexFault, LexKind, Mark, TokenKind as Kind, Word, lex};
+use spd_syntax::{LexFault, LexKind, Mark, TokenKind as Kind, Word, lex};
 use std::test::Fail;
 
 /// Texts, and their tokens with start, end and line.

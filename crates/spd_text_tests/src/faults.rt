@@ -1,6 +1,6 @@
 // Texts with the first fault of each, by hand, and texts that are programs.
 
-use crate::parse;
+use spd_parse::parse;
 use spd_syntax::{ParseFault, ParseKind, lex};
 use std::alloc::Global;
 use std::test::Fail;

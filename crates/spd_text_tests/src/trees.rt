@@ -1,6 +1,6 @@
-// Trees with their canonical texts. Those of texts that are read first stand in `spd_text_tests`.
+// Trees with their canonical texts. Those of texts that are read first stand in `printing`.
 
-use crate::print_program;
+use spd_canonical::print_program;
 use spd_list::Seq;
 use spd_syntax::{BinOp, Expr, Item, ItemKind, Items, PrintPart, Program, Stmt, StmtKind};
 use sqlite_items::Boxed;
