@@ -1,18 +1,14 @@
 -- Rules in the form of a page spell what the grammar's own do.
-use Rattle.std.proofs.Common.{◌≡◌, ℕ, zero, suc, ◌==◌, Bool, true, false, List, [], ◌∷◌, ◌++◌, refl, sym, ◌∙◌, ap, subst, inl, inr, ◌⊎◌, append_assoc}
+use Rattle.std.proofs.Common.{◌≡◌, ℕ, suc, ◌==◌, Bool, true, false, List, [], ◌∷◌, ◌++◌, refl, sym, ◌∙◌, ap, subst, inl, inr, ◌⊎◌, append_assoc}
 use Rattle.std.proofs.lemmas.List.{append-nil}
 use Rattle.spd_syntax.specs.declared.token.Mark.TheVariants as m
-use Rattle.spd_syntax.specs.declared.token.Word.TheVariants as w
 use Rattle.spd_syntax.specs.declared.tree.Expr.{Expr}
 use Rattle.spd_syntax.specs.declared.tree.Expr.TheVariants as e
-use Rattle.spd_syntax.specs.declared.tree.StmtKind.TheVariants as s
-use Rattle.spd_syntax.specs.declared.tree.Stmt.{Stmt}
-use Rattle.spd_syntax.specs.declared.tree.Collect.{Collect}
 use Rattle.spd_syntax.specs.Tokens.{Symbol, Seen}
-use Rattle.spd_syntax.specs.Shape.{Shape, ByteList, token, give, seq, either, folds, nest, expr, EachPart, folded, texts, Spelling, Spells}
-use Rattle.spd_syntax.specs.Shapes.{◌⊛◌, ◌⊲◌, ◌◃◌, ◌▹◌, word, mark, name, between}
-use Rattle.spd_syntax.specs.Grammar.{literal, behind_name, name_led, parens, len_of, size_of, at_of, same_of, begins_of, nameless, primary, unary_operator, signed, unary, nameless_unary, comparisons, operators, operation, operations, compose, into, behind_operand, at_level, top, expression, nameless_expression, let_finish, let_call, let_named, let_name, let_nameless, let_value, let_statement, Letting, stmt, called, collect_kind, block}
-use Rattle.spd_syntax.specs.PageForms.{◌or◌, page_primary, page_unary, any_number, at_most_once, page_prod, page_sum, page_cmp, page_and, page_expression, page_let}
+use Rattle.spd_syntax.specs.Shape.{Shape, ByteList, give, seq, either, nest, expr, EachPart, folded, texts, Spelling, Spells}
+use Rattle.spd_syntax.specs.Shapes.{◌⊛◌, ◌◃◌, name, between}
+use Rattle.spd_syntax.specs.Grammar.{behind_name, name_led, nameless, primary, unary_operator, signed, unary, comparisons, operators, operation, operations, compose, into, behind_operand, at_level, expression}
+use Rattle.spd_syntax.specs.PageForms.{◌or◌, page_primary, page_unary, any_number, at_most_once, page_prod, page_sum, page_cmp, page_and, page_expression}
 
 module _ (Fits : Symbol → Type 0) (inner : Spelling) where
   abbrev S : {A : Type 0} → Shape A → A → List Seen → Type 0

@@ -1,6 +1,6 @@
 -- A `let` in the form of a page spells what the grammar's own does: what stands behind `let name =` is one of the forms of
 -- LetForms, and the head goes over from the whole to each form.
-use Rattle.std.proofs.Common.{◌≡◌, ℕ, List, ◌++◌, refl, sym, ◌∙◌, ap, inl, inr, ◌⊎◌, append_assoc}
+use Rattle.std.proofs.Common.{◌≡◌, ℕ, List, ◌++◌, refl, sym, ◌∙◌, ap, inl, inr, append_assoc}
 use Rattle.spd_syntax.specs.declared.token.Mark.TheVariants as m
 use Rattle.spd_syntax.specs.declared.token.Word.TheVariants as w
 use Rattle.spd_syntax.specs.declared.tree.Expr.{Expr}
