@@ -23,7 +23,7 @@ LEVELS = [["||"], ["&&"], ["==", "!=", "<", "<=", ">", ">="], ["+", "-"], ["*", 
 COMPARISONS = 2
 UNARY, PRIMARY = 5, 6
 GREATEST = 9223372036854775807
-USED = ["spd_list", "spd_syntax", "spd_read", "spd_parse", "spd_text_tests"]
+USED = ["spd_list", "spd_syntax", "spd_canonical", "spd_read", "spd_parse", "spd_text_tests"]
 BATCH = 100
 
 

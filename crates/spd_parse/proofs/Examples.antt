@@ -25,7 +25,20 @@ kind_of-symbol (kind.Mark which) bytes = refl
 pub token_example : {A : Type 0} (table : List (TokenKind × (List ℕ → ℕ → A))) → some table ≡ true → Example (IsToken IsAnySymbol table)
 token_example [] h = absurd cc
 token_example (row ∷ rows) h =
-    record { value = row.1 (bytes_of (symbol row.0 [])) 0; text = (symbol row.0 [], 0) ∷ []; is = record { token = (symbol row.0 [], 0); make = row.1; row = rw (kind_of-symbol row.0 [], same_kind-same row.0) refl; fits = tt; value = refl; text = refl } }
+    record {
+      value = row.1 (bytes_of (symbol row.0 [])) 0;
+      text = (symbol row.0 [], 0) ∷ [];
+      is =
+          record {
+            token = (symbol row.0 [], 0);
+            make = row.1;
+            row = rw (kind_of-symbol row.0 [], same_kind-same row.0) refl;
+            fits = tt;
+            value = refl;
+            text =
+                refl;
+          };
+    }
 
 module _ (inner : Spelling) where
   abbrev pub Examples : Type 0
@@ -38,7 +51,12 @@ module _ (inner : Spelling) where
       let h = both (one_ahead p) _ fits in
       let x = example p h.0 (left e) in
       let y = example q (both (one_ahead q) _ h.1).0 (right e) in
-      record { value = x.value y.value; text = x.text ++ y.text; is = record { make = x.value; part = y.value; front = x.text; back = y.text; first = x.is; second = y.is; value = refl; text = refl } }
+      record {
+        value = x.value y.value;
+        text = x.text ++ y.text;
+        is = record
+            { make = x.value; part = y.value; front = x.text; back = y.text; first = x.is; second = y.is; value = refl; text = refl };
+      }
     where
       left : (plain p && plain q) ≡ true ⊎ Examples → (plain p ≡ true) ⊎ Examples
       left (inl h) = inl (both (plain p) (plain q) h).0
@@ -50,15 +68,35 @@ module _ (inner : Spelling) where
   example (either ks p q) fits (inr h) =
       let x = example p (both (one_ahead p) _ fits).0 (inr h) in
       record { value = x.value; text = x.text; is = inl x.is }
-  example {A} (either ks p q) fits (inl h) = by_test (plain p) refl h (λ g. example p (both (one_ahead p) _ fits).0 (inl g)) (λ g. example q (both (one_ahead q) _ (both (one_ahead p) _ fits).1).0 (inl g))
+  example {A} (either ks p q) fits (inl h) = by_test (plain p) refl h (λ g. example p (both (one_ahead p) _ fits).0 (inl g))
+      (λ g. example q (both (one_ahead q) _ (both (one_ahead p) _ fits).1).0 (inl g))
     where
-      by_test : (b : Bool) → plain p ≡ b → (b || plain q) ≡ true → (plain p ≡ true → Example (Spells IsAnySymbol inner p)) → (plain q ≡ true → Example (Spells IsAnySymbol inner q)) → Example (λ a us. Spells IsAnySymbol inner p a us ⊎ Spells IsAnySymbol inner q a us)
+      by_test : (b : Bool) → plain p ≡ b → (b || plain q) ≡ true → (plain p ≡ true → Example (Spells IsAnySymbol inner p))
+          → (plain q ≡ true → Example (Spells IsAnySymbol inner q)) → Example (λ a us. Spells IsAnySymbol inner p a us ⊎ Spells IsAnySymbol inner q a us)
       by_test true is h first second = let x = first is in record { value = x.value; text = x.text; is = inl x.is }
       by_test false is h first second = let x = second h in record { value = x.value; text = x.text; is = inr x.is }
   example (folds ks f p q) fits e =
       let x = example p (both (one_ahead p) _ fits).0 e in
-      record { value = x.value; text = x.text ++ []; is = record { base = x.value; front = x.text; parts = []; first = x.is; each = tt; value = refl; text = refl } }
+      record {
+        value = x.value;
+        text = x.text ++ [];
+        is = record {
+          base = x.value;
+          front = x.text;
+          parts = [];
+          first = x.is;
+          each = tt;
+          value = refl;
+          text =
+              refl;
+        };
+      }
   example (nest rule o c f) fits (inl h) = absurd cc
   example (nest rule o c f) fits (inr h) =
       let x = h rule in
-      record { value = f 0 x.value 0; text = (mark o, 0) ∷ (x.text ++ (mark c, 0) ∷ []); is = record { line = 0; part = x.value; middle = x.text; end_line = 0; is = x.is; value = refl; text = refl } }
+      record {
+        value = f 0 x.value 0;
+        text = (mark o, 0) ∷ (x.text ++ (mark c, 0) ∷ []);
+        is =
+            record { line = 0; part = x.value; middle = x.text; end_line = 0; is = x.is; value = refl; text = refl };
+      }

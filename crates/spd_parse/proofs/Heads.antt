@@ -32,7 +32,8 @@ begins_second true f js ks [] h = refl
 begins_second false f js ks [] h = h
 begins_second e f js ks (t ∷ r) h = in_right (kind_of t.0) js ks h
 
-pub begins_each : {B : Type 0} (f : Bool) (ks : List TokenKind) (Q : B → List Seen → Type 0) (bs : List (B × List Seen)) → ((x : B) (vs : List Seen) → Q x vs → Begins f ks vs) → EachPart Q bs → Begins true ks (texts bs)
+pub begins_each : {B : Type 0} (f : Bool) (ks : List TokenKind) (Q : B → List Seen → Type 0) (bs : List (B × List Seen))
+    → ((x : B) (vs : List Seen) → Q x vs → Begins f ks vs) → EachPart Q bs → Begins true ks (texts bs)
 begins_each f ks Q [] h each = refl
 begins_each f ks Q (b ∷ bs) h each = by_text b.1 (h b.0 b.1 each.0) (begins_each f ks Q bs h each.1)
   where
@@ -44,8 +45,10 @@ module _ (inner : Spelling) where
   pub heads : {A : Type 0} (p : Shape A) (a : A) (ts : List Seen) → Spells IsAnySymbol inner p a ts → Begins (is_empty p) (begins p) ts
   heads (token table) a ts s = rw s.text (in_table (kind_of s.token.0) table s.make s.row)
   heads (give b) a ts s = rw s.1 refl
-  heads (seq p q) a ts s = rw s.text (begins_both (is_empty p) (is_empty q) (begins p) (begins q) s.front s.back (heads p s.make s.front s.first) (heads q s.part s.back s.second))
+  heads (seq p q) a ts s = rw s.text (begins_both (is_empty p) (is_empty q) (begins p) (begins q) s.front s.back (heads p s.make s.front s.first)
+      (heads q s.part s.back s.second))
   heads (either ks p q) a ts (inl s) = begins_first (is_empty p) (is_empty q) (begins p) (begins q) ts (heads p a ts s)
   heads (either ks p q) a ts (inr s) = begins_second (is_empty p) (is_empty q) (begins p) (begins q) ts (heads q a ts s)
-  heads (folds ks f p q) a ts s = rw s.text (begins_many (is_empty p) (begins p) (begins q) s.front (texts s.parts) (heads p s.base s.front s.first) (begins_each (is_empty q) (begins q) (Spells IsAnySymbol inner q) s.parts (λ x vs h. heads q x vs h) s.each))
+  heads (folds ks f p q) a ts s = rw s.text (begins_many (is_empty p) (begins p) (begins q) s.front (texts s.parts) (heads p s.base s.front s.first)
+      (begins_each (is_empty q) (begins q) (Spells IsAnySymbol inner q) s.parts (λ x vs h. heads q x vs h) s.each))
   heads (nest rule o c f) a ts s = rw (s.text, same_kind-same (kind.Mark o)) refl

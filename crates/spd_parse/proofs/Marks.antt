@@ -23,6 +23,7 @@ pub mark_cases : (which : Mark) (ts : List Seen) → ((l : ℕ) × (r : List See
 mark_cases which [] = inr refl
 mark_cases which ((s, l) ∷ r) = by_test (same_kind (kind.Mark which) (kind_of s)) refl
   where
-    by_test : (b : Bool) → same_kind (kind.Mark which) (kind_of s) ≡ b → ((l' : ℕ) × (r' : List Seen) × ((s, l) ∷ r ≡ (mark which, l') ∷ r')) ⊎ (mark_at which ((s, l) ∷ r) ≡ Err (Expected, (s, l) ∷ r))
+    by_test : (b : Bool) → same_kind (kind.Mark which) (kind_of s) ≡ b → ((l' : ℕ) × (r' : List Seen) × ((s, l) ∷ r ≡ (mark which, l') ∷ r'))
+        ⊎ (mark_at which ((s, l) ∷ r) ≡ Err (Expected, (s, l) ∷ r))
     by_test true e = inl (l, r, ap (λ (x : Symbol). (x, l) ∷ r) (is_mark which s (same_kind-true (kind.Mark which) (kind_of s) e)))
     by_test false e = inr (rw e refl)

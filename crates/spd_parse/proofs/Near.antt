@@ -45,18 +45,21 @@ module _ (limit : ℕ) (t : Seen) (r s : List Seen) where
   rest_then ts (Err e) h w = w
 
   -- a part, and then what g reads of the rest
-  then_near : {A B : Type 0} (o o' : Read A) (g g' : A × List Seen → Read B) → Alike o o' → ((x : A × List Seen) → Rest x.1 (g x)) → ((a : A) (ws : List Seen) → o ≡ Ok (a, ws ++ t ∷ r) → Alike (g (a, ws ++ t ∷ r)) (g' (a, ws ++ t ∷ s))) → Alike (o >>= g) (o' >>= g')
+  then_near : {A B : Type 0} (o o' : Read A) (g g' : A × List Seen → Read B) → Alike o o' → ((x : A × List Seen) → Rest x.1 (g x))
+      → ((a : A) (ws : List Seen) → o ≡ Ok (a, ws ++ t ∷ r) → Alike (g (a, ws ++ t ∷ r)) (g' (a, ws ++ t ∷ s))) → Alike (o >>= g) (o' >>= g')
   then_near {A} {B} (Err e) o' g g' h rest near = λ vs is. rw (h vs is) refl
   then_near {A} {B} (Ok x) o' g g' h rest near = by_two (g x) (rest x) refl
     where
       by_two : (p : Read B) → Rest x.1 p → g x ≡ p → Alike p (o' >>= g')
       by_two (Ok y) w e = λ vs is.
           let at : x.1 ≡ (w.0 ++ vs) ++ t ∷ r = w.1 ∙ ap (λ (z : List Seen). w.0 ++ z) is ∙ sym (append_assoc w.0 vs (t ∷ r)) in
-          let n : Alike (Ok y) (g' (x.0, (w.0 ++ vs) ++ t ∷ s)) = subst (λ (q : Read B). Alike q (g' (x.0, (w.0 ++ vs) ++ t ∷ s))) (ap (λ (z : List Seen). g (x.0, z)) (sym at) ∙ e) (near x.0 (w.0 ++ vs) (ap (λ (z : List Seen). Ok (x.0, z)) at)) in
+          let n : Alike (Ok y) (g' (x.0, (w.0 ++ vs) ++ t ∷ s)) = subst (λ (q : Read B). Alike q (g' (x.0, (w.0 ++ vs) ++ t ∷ s)))
+          (ap (λ (z : List Seen). g (x.0, z)) (sym at) ∙ e) (near x.0 (w.0 ++ vs) (ap (λ (z : List Seen). Ok (x.0, z)) at)) in
           rw (h (w.0 ++ vs) at) (n vs is)
       by_two (Err y) w e = λ vs is.
           let at : x.1 ≡ (w.0 ++ vs) ++ t ∷ r = w.1 ∙ ap (λ (z : List Seen). w.0 ++ z) is ∙ sym (append_assoc w.0 vs (t ∷ r)) in
-          let n : Alike (Err y) (g' (x.0, (w.0 ++ vs) ++ t ∷ s)) = subst (λ (q : Read B). Alike q (g' (x.0, (w.0 ++ vs) ++ t ∷ s))) (ap (λ (z : List Seen). g (x.0, z)) (sym at) ∙ e) (near x.0 (w.0 ++ vs) (ap (λ (z : List Seen). Ok (x.0, z)) at)) in
+          let n : Alike (Err y) (g' (x.0, (w.0 ++ vs) ++ t ∷ s)) = subst (λ (q : Read B). Alike q (g' (x.0, (w.0 ++ vs) ++ t ∷ s)))
+          (ap (λ (z : List Seen). g (x.0, z)) (sym at) ∙ e) (near x.0 (w.0 ++ vs) (ap (λ (z : List Seen). Ok (x.0, z)) at)) in
           rw (h (w.0 ++ vs) at) (n vs is)
 
   -- ---- where reading stands at once
@@ -78,7 +81,8 @@ module _ (limit : ℕ) (t : Seen) (r s : List Seen) where
   token_near : {A : Type 0} (table : List (TokenKind × (List ℕ → ℕ → A))) (us : List Seen) → Alike (token_at table (us ++ t ∷ r)) (token_at table (us ++ t ∷ s))
   token_near {A} table [] = by_row (entry_of (kind_of t.0) table)
     where
-      by_size : (make : List ℕ → ℕ → A) (b : Bool) → Alike (cond {A = Read A} b (Err (Literal, t ∷ r)) (Ok (make (bytes_of t.0) t.1, r))) (cond {A = Read A} b (Err (Literal, t ∷ s)) (Ok (make (bytes_of t.0) t.1, s)))
+      by_size : (make : List ℕ → ℕ → A) (b : Bool) → Alike (cond {A = Read A} b (Err (Literal, t ∷ r)) (Ok (make (bytes_of t.0) t.1, r)))
+          (cond {A = Read A} b (Err (Literal, t ∷ s)) (Ok (make (bytes_of t.0) t.1, s)))
       by_size make true = err_near Literal []
       by_size make false = past (Ok (make (bytes_of t.0) t.1, r)) (Ok (make (bytes_of t.0) t.1, s)) ([], refl)
 
@@ -87,7 +91,8 @@ module _ (limit : ℕ) (t : Seen) (r s : List Seen) where
       by_row (Some make) = by_size make (is_great t.0)
   token_near {A} table (u ∷ us) = by_row (entry_of (kind_of u.0) table)
     where
-      by_size : (make : List ℕ → ℕ → A) (b : Bool) → Alike (cond {A = Read A} b (Err (Literal, u ∷ (us ++ t ∷ r))) (Ok (make (bytes_of u.0) u.1, us ++ t ∷ r))) (cond {A = Read A} b (Err (Literal, u ∷ (us ++ t ∷ s))) (Ok (make (bytes_of u.0) u.1, us ++ t ∷ s)))
+      by_size : (make : List ℕ → ℕ → A) (b : Bool) → Alike (cond {A = Read A} b (Err (Literal, u ∷ (us ++ t ∷ r)))
+          (Ok (make (bytes_of u.0) u.1, us ++ t ∷ r))) (cond {A = Read A} b (Err (Literal, u ∷ (us ++ t ∷ s))) (Ok (make (bytes_of u.0) u.1, us ++ t ∷ s)))
       by_size make true = err_near Literal (u ∷ us)
       by_size make false = ok_near (make (bytes_of u.0) u.1) us
 
@@ -95,7 +100,8 @@ module _ (limit : ℕ) (t : Seen) (r s : List Seen) where
       by_row None = err_near Expected (u ∷ us)
       by_row (Some make) = by_size make (is_great u.0)
 
-  either_near : {A : Type 0} (ks : List TokenKind) (us : List Seen) (o p o' p' : Read A) → Alike o o' → Alike p p' → Alike (cond (next_in ks (us ++ t ∷ r)) o p) (cond (next_in ks (us ++ t ∷ s)) o' p')
+  either_near : {A : Type 0} (ks : List TokenKind) (us : List Seen) (o p o' p' : Read A) → Alike o o' → Alike p p'
+      → Alike (cond (next_in ks (us ++ t ∷ r)) o p) (cond (next_in ks (us ++ t ∷ s)) o' p')
   either_near {A} ks us o p o' p' h g = rw (same_next ks us) (by_test (next_in ks (us ++ t ∷ r)))
     where
       by_test : (b : Bool) → Alike (cond b o p) (cond b o' p')
@@ -105,17 +111,22 @@ module _ (limit : ℕ) (t : Seen) (r s : List Seen) where
   -- ---- any number of parts
 
   repeat_near : {A B : Type 0} (level : ℕ) (ks first : List TokenKind) (empty : Bool) (f : A → B → A) (Q : B → List Seen → Type 0) (rq : List Seen → Read B)
-      → empty ≡ false → ((b : B) (vs : List Seen) → Q b vs → Begins empty first vs) → ((us : List Seen) → Told limit level Q us (rq us)) → ((us : List Seen) → Alike (rq (us ++ t ∷ r)) (rq (us ++ t ∷ s)))
-      → (n m : ℕ) (a : A) (us : List Seen) → length (us ++ t ∷ r) ≤ n → length (us ++ t ∷ s) ≤ m → Alike (repeat ks (added f rq) n a (us ++ t ∷ r)) (repeat ks (added f rq) m a (us ++ t ∷ s))
+      → empty ≡ false → ((b : B) (vs : List Seen) → Q b vs → Begins empty first vs) → ((us : List Seen) → Told limit level Q us (rq us))
+      → ((us : List Seen) → Alike (rq (us ++ t ∷ r)) (rq (us ++ t ∷ s)))
+      → (n m : ℕ) (a : A) (us : List Seen) → length (us ++ t ∷ r) ≤ n → length (us ++ t ∷ s) ≤ m
+      → Alike (repeat ks (added f rq) n a (us ++ t ∷ r)) (repeat ks (added f rq) m a (us ++ t ∷ s))
   unfolding repeat
   repeat_near level ks first empty f Q rq some head told near zero m a us le le' = absurd (omega (arith, le, length-append us (t ∷ r)))
   repeat_near level ks first empty f Q rq some head told near (suc n) zero a us le le' = absurd (omega (arith, le', length-append us (t ∷ s)))
   repeat_near {A} {B} level ks first empty f Q rq some head told near (suc n) (suc m) a us le le' =
-      either_near ks us ((added f rq a (us ++ t ∷ r)) >>= λ x. repeat ks (added f rq) n x.0 x.1) (Ok (a, us ++ t ∷ r)) ((added f rq a (us ++ t ∷ s)) >>= λ x. repeat ks (added f rq) m x.0 x.1) (Ok (a, us ++ t ∷ s))
+      either_near ks us ((added f rq a (us ++ t ∷ r)) >>= λ x. repeat ks (added f rq) n x.0 x.1) (Ok (a, us ++ t ∷ r))
+      ((added f rq a (us ++ t ∷ s)) >>= λ x. repeat ks (added f rq) m x.0 x.1) (Ok (a, us ++ t ∷ s))
       (then_near (added f rq a (us ++ t ∷ r)) (added f rq a (us ++ t ∷ s)) (λ x. repeat ks (added f rq) n x.0 x.1) (λ x. repeat ks (added f rq) m x.0 x.1)
-      (then_near (rq (us ++ t ∷ r)) (rq (us ++ t ∷ s)) (λ y. Ok (f a y.0, y.1)) (λ y. Ok (f a y.0, y.1)) (near us) (λ y. ([], refl)) (λ b ws e. ok_near (f a b) ws))
+      (then_near (rq (us ++ t ∷ r)) (rq (us ++ t ∷ s)) (λ y. Ok (f a y.0, y.1)) (λ y. Ok (f a y.0, y.1)) (near us) (λ y. ([], refl))
+      (λ b ws e. ok_near (f a b) ws))
       (λ x. rest_of level (AreMore f Q x.0) x.1 (repeat ks (added f rq) n x.0 x.1) (repeat_told limit level ks f Q rq told n x.0 x.1))
-      (λ b ws e. by_length b ws (rq (us ++ t ∷ r)) (told (us ++ t ∷ r)) e (λ le le'. repeat_near level ks first empty f Q rq some head told near n m b ws le le')))
+      (λ b ws e. by_length b ws (rq (us ++ t ∷ r)) (told (us ++ t ∷ r)) e
+      (λ le le'. repeat_near level ks first empty f Q rq some head told near n m b ws le le')))
       (ok_near a us)
     where
       not_empty : (b : B) (vs : List Seen) → Q b vs → 1 ≤ length vs
@@ -131,7 +142,18 @@ module _ (limit : ℕ) (t : Seen) (r s : List Seen) where
           let rest : length y.1 ≡ length (ws ++ t ∷ r) = ap (λ (p : A × List Seen). length p.1) pair in
           let one = not_empty y.0 h.front h.is in
           let less : length (ws ++ t ∷ r) ≤ n = omega (arith, le, one, rest, ap length h.parts, length-append h.front y.1) in
-          let less' : length (ws ++ t ∷ s) ≤ m = omega (arith, le', one, rest, ap length h.parts, length-append h.front y.1, length-append us (t ∷ r), length-append us (t ∷ s), length-append ws (t ∷ r), length-append ws (t ∷ s)) in
+          let less' : length (ws ++ t ∷ s) ≤ m = omega (
+            arith,
+            le',
+            one,
+            rest,
+            ap length h.parts,
+            length-append h.front y.1,
+            length-append us (t ∷ r),
+            length-append us (t ∷ s),
+            length-append ws (t ∷ r),
+            length-append ws (t ∷ s),
+          ) in
           go less less'
 
   -- ---- a rule between brackets
@@ -151,9 +173,11 @@ module _ (limit : ℕ) (t : Seen) (r s : List Seen) where
     closed_near l p p' h =
         then_near p p' (λ x. mark_at c x.1 >>= λ l'. Ok (f l x.0 l'.0, l'.1)) (λ x. mark_at c x.1 >>= λ l'. Ok (f l x.0 l'.0, l'.1)) h
         (λ x. rest_then x.1 (mark_at c x.1) (λ l'. f l x.0 l') (mark_rest c x.1))
-        (λ b ws e. then_near (mark_at c (ws ++ t ∷ r)) (mark_at c (ws ++ t ∷ s)) (λ l'. Ok (f l b l'.0, l'.1)) (λ l'. Ok (f l b l'.0, l'.1)) (token_near ((kind.Mark c, λ bytes line. line) ∷ []) ws) (λ l'. ([], refl)) (λ l' ws e. ok_near (f l b l') ws))
+        (λ b ws e. then_near (mark_at c (ws ++ t ∷ r)) (mark_at c (ws ++ t ∷ s)) (λ l'. Ok (f l b l'.0, l'.1)) (λ l'. Ok (f l b l'.0, l'.1))
+        (token_near ((kind.Mark c, λ bytes line. line) ∷ []) ws) (λ l'. ([], refl)) (λ l' ws e. ok_near (f l b l') ws))
 
-    inside_near : (refs : Option Refs) → RefsNear refs → (l : ℕ) (before us : List Seen) → Alike (closed l (inside refs rule (before ++ t ∷ r) (us ++ t ∷ r))) (closed l (inside refs rule (before ++ t ∷ s) (us ++ t ∷ s)))
+    inside_near : (refs : Option Refs) → RefsNear refs → (l : ℕ) (before us : List Seen)
+        → Alike (closed l (inside refs rule (before ++ t ∷ r) (us ++ t ∷ r))) (closed l (inside refs rule (before ++ t ∷ s) (us ++ t ∷ s)))
     inside_near None near l before us = err_near TooDeep before
     inside_near (Some refs) near l before us = closed_near l (refs rule (us ++ t ∷ r)) (refs rule (us ++ t ∷ s)) (near rule us)
 
@@ -166,51 +190,72 @@ module _ (limit : ℕ) (t : Seen) (r s : List Seen) where
         by_close (Err e) v = (w.0 ++ v.0, w.1 ∙ ap (λ (z : List Seen). w.0 ++ z) v.1 ∙ sym (append_assoc w.0 v.0 e.1))
 
     -- The bracket is the token itself, and what was read is behind it, unless one bracket too many is open.
-    at_bracket : (refs : Option Refs) (n : ℕ) → RefsTold limit refs inner n → (l : ℕ) → Alike (closed l (inside refs rule (t ∷ r) r)) (closed l (inside refs rule (t ∷ s) s))
+    at_bracket : (refs : Option Refs) (n : ℕ) → RefsTold limit refs inner n → (l : ℕ)
+        → Alike (closed l (inside refs rule (t ∷ r) r)) (closed l (inside refs rule (t ∷ s) s))
     at_bracket None n told l = err_near TooDeep []
-    at_bracket (Some refs) n told l = past (closed l (refs rule r)) (closed l (refs rule s)) (closed_rest l r (refs rule r) (rest_of (suc n) (inner rule) r (refs rule r) (told.1 rule r)))
+    at_bracket (Some refs) n told l = past (closed l (refs rule r)) (closed l (refs rule s))
+        (closed_rest l r (refs rule r) (rest_of (suc n) (inner rule) r (refs rule r) (told.1 rule r)))
 
-    nest_near : (refs : Option Refs) (n : ℕ) → RefsTold limit refs inner n → RefsNear refs → (us : List Seen) → Alike (mark_at o (us ++ t ∷ r) >>= λ l. closed l.0 (inside refs rule (us ++ t ∷ r) l.1)) (mark_at o (us ++ t ∷ s) >>= λ l. closed l.0 (inside refs rule (us ++ t ∷ s) l.1))
+    nest_near : (refs : Option Refs) (n : ℕ) → RefsTold limit refs inner n → RefsNear refs → (us : List Seen)
+        → Alike (mark_at o (us ++ t ∷ r) >>= λ l. closed l.0 (inside refs rule (us ++ t ∷ r) l.1))
+        (mark_at o (us ++ t ∷ s) >>= λ l. closed l.0 (inside refs rule (us ++ t ∷ s) l.1))
     nest_near refs n told near [] = by_row (entry_of (kind_of t.0) ((kind.Mark o, λ bytes line. line) ∷ []))
       where
-        by_size : (make : List ℕ → ℕ → ℕ) (b : Bool) → Alike (cond {A = Read ℕ} b (Err (Literal, t ∷ r)) (Ok (make (bytes_of t.0) t.1, r)) >>= λ l. closed l.0 (inside refs rule (t ∷ r) l.1)) (cond {A = Read ℕ} b (Err (Literal, t ∷ s)) (Ok (make (bytes_of t.0) t.1, s)) >>= λ l. closed l.0 (inside refs rule (t ∷ s) l.1))
+        by_size : (make : List ℕ → ℕ → ℕ) (b : Bool) → Alike (cond {A = Read ℕ} b (Err (Literal, t ∷ r)) (Ok (make (bytes_of t.0) t.1, r)) >>= λ l. closed
+            l.0 (inside refs rule (t ∷ r) l.1)) (cond {A = Read ℕ} b (Err (Literal, t ∷ s)) (Ok (make (bytes_of t.0) t.1, s)) >>= λ l. closed l.0
+            (inside refs rule (t ∷ s) l.1))
         by_size make true = err_near Literal []
         by_size make false = at_bracket refs n told (make (bytes_of t.0) t.1)
 
-        by_row : (q : Option (List ℕ → ℕ → ℕ)) → Alike (accepted q t r >>= λ l. closed l.0 (inside refs rule (t ∷ r) l.1)) (accepted q t s >>= λ l. closed l.0 (inside refs rule (t ∷ s) l.1))
+        by_row : (q : Option (List ℕ → ℕ → ℕ)) → Alike (accepted q t r >>= λ l. closed l.0 (inside refs rule (t ∷ r) l.1))
+            (accepted q t s >>= λ l. closed l.0 (inside refs rule (t ∷ s) l.1))
         by_row None = err_near Expected []
         by_row (Some make) = by_size make (is_great t.0)
     nest_near refs n told near (u ∷ us) = by_row (entry_of (kind_of u.0) ((kind.Mark o, λ bytes line. line) ∷ []))
       where
-        by_size : (make : List ℕ → ℕ → ℕ) (b : Bool) → Alike (cond {A = Read ℕ} b (Err (Literal, u ∷ (us ++ t ∷ r))) (Ok (make (bytes_of u.0) u.1, us ++ t ∷ r)) >>= λ l. closed l.0 (inside refs rule (u ∷ (us ++ t ∷ r)) l.1)) (cond {A = Read ℕ} b (Err (Literal, u ∷ (us ++ t ∷ s))) (Ok (make (bytes_of u.0) u.1, us ++ t ∷ s)) >>= λ l. closed l.0 (inside refs rule (u ∷ (us ++ t ∷ s)) l.1))
+        by_size : (make : List ℕ → ℕ → ℕ) (b : Bool) → Alike (cond {A = Read ℕ} b (Err (Literal, u ∷ (us ++ t ∷ r)))
+            (Ok (make (bytes_of u.0) u.1, us ++ t ∷ r)) >>= λ l. closed l.0 (inside refs rule (u ∷ (us ++ t ∷ r)) l.1))
+            (cond {A = Read ℕ} b (Err (Literal, u ∷ (us ++ t ∷ s))) (Ok (make (bytes_of u.0) u.1, us ++ t ∷ s)) >>= λ l. closed l.0
+            (inside refs rule (u ∷ (us ++ t ∷ s)) l.1))
         by_size make true = err_near Literal (u ∷ us)
         by_size make false = inside_near refs near (make (bytes_of u.0) u.1) (u ∷ us) us
 
-        by_row : (q : Option (List ℕ → ℕ → ℕ)) → Alike (accepted q u (us ++ t ∷ r) >>= λ l. closed l.0 (inside refs rule (u ∷ (us ++ t ∷ r)) l.1)) (accepted q u (us ++ t ∷ s) >>= λ l. closed l.0 (inside refs rule (u ∷ (us ++ t ∷ s)) l.1))
+        by_row : (q : Option (List ℕ → ℕ → ℕ)) → Alike (accepted q u (us ++ t ∷ r) >>= λ l. closed l.0 (inside refs rule (u ∷ (us ++ t ∷ r)) l.1))
+            (accepted q u (us ++ t ∷ s) >>= λ l. closed l.0 (inside refs rule (u ∷ (us ++ t ∷ s)) l.1))
         by_row None = err_near Expected (u ∷ us)
         by_row (Some make) = by_size make (is_great u.0)
 
   -- ---- each shape
 
-  module _ (refs : Option Refs) (inner : Spelling) (n : ℕ) (refs_told : RefsTold limit refs inner n) (refs_near : RefsNear refs) (examples : Examples inner) where
-    pub near : {A : Type 0} (p : Shape A) → one_ahead p ≡ true → (us : List Seen) → Alike (reads refs p (us ++ t ∷ r)) (reads refs p (us ++ t ∷ s))
-    near (token table) fits us = token_near table us
-    near (give a) fits us = ok_near a us
-    near (seq p q) fits us =
-        let h = both (one_ahead p) _ fits in
-        let k = both (one_ahead q) _ h.1 in
-        then_near (reads refs p (us ++ t ∷ r)) (reads refs p (us ++ t ∷ s)) (λ g. reads refs q g.1 >>= λ x. Ok (g.0 x.0, x.1)) (λ g. reads refs q g.1 >>= λ x. Ok (g.0 x.0, x.1)) (near p h.0 us)
-        (λ g. rest_then g.1 (reads refs q g.1) (λ x. g.0 x) (rest_of n (Spells IsAnySymbol inner q) g.1 (reads refs q g.1) (told limit refs inner n refs_told examples q k.0 g.1)))
-        (λ g ws e. then_near (reads refs q (ws ++ t ∷ r)) (reads refs q (ws ++ t ∷ s)) (λ x. Ok (g x.0, x.1)) (λ x. Ok (g x.0, x.1)) (near q k.0 ws) (λ x. ([], refl)) (λ x ws e. ok_near (g x) ws))
-    near (either ks p q) fits us =
-        let h = both (one_ahead p) _ fits in
-        let k = both (one_ahead q) _ h.1 in
-        either_near ks us (reads refs p (us ++ t ∷ r)) (reads refs q (us ++ t ∷ r)) (reads refs p (us ++ t ∷ s)) (reads refs q (us ++ t ∷ s)) (near p h.0 us) (near q k.0 us)
-    near (folds ks f p q) fits us =
-        let h = both (one_ahead p) _ fits in
-        let k = both (one_ahead q) _ h.1 in
-        let m = both (not (is_empty q)) _ k.1 in
-        then_near (reads refs p (us ++ t ∷ r)) (reads refs p (us ++ t ∷ s)) (λ x. repeat ks (added f (reads refs q)) (length x.1) x.0 x.1) (λ x. repeat ks (added f (reads refs q)) (length x.1) x.0 x.1) (near p h.0 us)
-        (λ x. rest_of n (AreMore f (Spells IsAnySymbol inner q) x.0) x.1 (repeat ks (added f (reads refs q)) (length x.1) x.0 x.1) (repeat_told limit n ks f (Spells IsAnySymbol inner q) (reads refs q) (λ us. told limit refs inner n refs_told examples q k.0 us) (length x.1) x.0 x.1))
-        (λ a ws e. repeat_near n ks (begins q) (is_empty q) f (Spells IsAnySymbol inner q) (reads refs q) (not-true (is_empty q) m.0) (λ b vs g. heads inner q b vs g) (λ us. told limit refs inner n refs_told examples q k.0 us) (λ us. near q k.0 us) (length (ws ++ t ∷ r)) (length (ws ++ t ∷ s)) a ws (omega arith) (omega arith))
-    near (nest rule o c f) fits us = nest_near rule o c f inner refs n refs_told refs_near us
+  module _ (refs : Option Refs) (inner : Spelling) (n : ℕ) (refs_told : RefsTold limit refs inner n) (refs_near : RefsNear refs) (examples : Examples inner)
+    where
+      pub near : {A : Type 0} (p : Shape A) → one_ahead p ≡ true → (us : List Seen) → Alike (reads refs p (us ++ t ∷ r)) (reads refs p (us ++ t ∷ s))
+      near (token table) fits us = token_near table us
+      near (give a) fits us = ok_near a us
+      near (seq p q) fits us =
+          let h = both (one_ahead p) _ fits in
+          let k = both (one_ahead q) _ h.1 in
+          then_near (reads refs p (us ++ t ∷ r)) (reads refs p (us ++ t ∷ s)) (λ g. reads refs q g.1 >>= λ x. Ok (g.0 x.0, x.1))
+          (λ g. reads refs q g.1 >>= λ x. Ok (g.0 x.0, x.1)) (near p h.0 us)
+          (λ g. rest_then g.1 (reads refs q g.1) (λ x. g.0 x) (rest_of n (Spells IsAnySymbol inner q) g.1 (reads refs q g.1)
+          (told limit refs inner n refs_told examples q k.0 g.1)))
+          (λ g ws e. then_near (reads refs q (ws ++ t ∷ r)) (reads refs q (ws ++ t ∷ s)) (λ x. Ok (g x.0, x.1)) (λ x. Ok (g x.0, x.1)) (near q k.0 ws)
+          (λ x. ([], refl)) (λ x ws e. ok_near (g x) ws))
+      near (either ks p q) fits us =
+          let h = both (one_ahead p) _ fits in
+          let k = both (one_ahead q) _ h.1 in
+          either_near ks us (reads refs p (us ++ t ∷ r)) (reads refs q (us ++ t ∷ r)) (reads refs p (us ++ t ∷ s)) (reads refs q (us ++ t ∷ s))
+          (near p h.0 us) (near q k.0 us)
+      near (folds ks f p q) fits us =
+          let h = both (one_ahead p) _ fits in
+          let k = both (one_ahead q) _ h.1 in
+          let m = both (not (is_empty q)) _ k.1 in
+          then_near (reads refs p (us ++ t ∷ r)) (reads refs p (us ++ t ∷ s)) (λ x. repeat ks (added f (reads refs q)) (length x.1) x.0 x.1)
+          (λ x. repeat ks (added f (reads refs q)) (length x.1) x.0 x.1) (near p h.0 us)
+          (λ x. rest_of n (AreMore f (Spells IsAnySymbol inner q) x.0) x.1 (repeat ks (added f (reads refs q)) (length x.1) x.0 x.1)
+          (repeat_told limit n ks f (Spells IsAnySymbol inner q) (reads refs q) (λ us. told limit refs inner n refs_told examples q k.0 us) (length x.1)
+          x.0 x.1))
+          (λ a ws e. repeat_near n ks (begins q) (is_empty q) f (Spells IsAnySymbol inner q) (reads refs q) (not-true (is_empty q) m.0)
+          (λ b vs g. heads inner q b vs g) (λ us. told limit refs inner n refs_told examples q k.0 us) (λ us. near q k.0 us) (length (ws ++ t ∷ r))
+          (length (ws ++ t ∷ s)) a ws (omega arith) (omega arith))
+      near (nest rule o c f) fits us = nest_near rule o c f inner refs n refs_told refs_near us

@@ -51,13 +51,23 @@ module _ {A : Type 0} (p : Shape A) (ahead : one_ahead p ≡ true) where
   no_limit : (ts : List Seen) (kind : StopKind) (rest : List Seen) → Eachly IsLawfulSymbol ts → IsLimit kind → IsFirstStop p (length ts) ts kind rest → ⊥
   no_limit ts Expected rest fit limit h = limit
   no_limit ts Literal [] fit limit h = h.is
-  no_limit ts Literal (t ∷ r) fit limit h = let lawful = eachly_back IsLawfulSymbol h.before (t ∷ r) (subst (λ (z : List Seen). Eachly IsLawfulSymbol z) h.parts fit) in let small = lawful_small t.0 lawful.0 in let great = great_of (length ts) (open_behind 0 h.before) t.0 h.is in absurd cc
+  no_limit ts Literal (t ∷ r) fit limit h = let lawful = eachly_back IsLawfulSymbol h.before (t ∷ r)
+      (subst (λ (z : List Seen). Eachly IsLawfulSymbol z) h.parts fit) in let small = lawful_small t.0 lawful.0 in let great =
+      great_of (length ts) (open_behind 0 h.before) t.0 h.is in absurd cc
   no_limit ts TooDeep [] fit limit h = h.is
-  no_limit ts TooDeep (t ∷ r) fit limit h = omega (arith, deep_of (length ts) (open_behind 0 h.before) t.0 h.is, open_bound 0 h.before, ap length h.parts, length-append h.before (t ∷ r))
+  no_limit ts TooDeep (t ∷ r) fit limit h = omega (
+    arith,
+    deep_of (length ts) (open_behind 0 h.before) t.0 h.is,
+    open_bound 0 h.before,
+    ap length h.parts,
+    length-append h.before (t ∷ r),
+  )
 
   pub once : (ts : List Seen) (a b : A) → IsSpelled p a ts → IsSpelled p b ts → a ≡ b
-  once ts a b s t = by_answer (reads_all (length ts) p ts) refl (laws.only p ahead (length ts) ts a (by_grammar p a ts s)) (laws.only p ahead (length ts) ts b (by_grammar p b ts t))
+  once ts a b s t = by_answer (reads_all (length ts) p ts) refl (laws.only p ahead (length ts) ts a (by_grammar p a ts s))
+      (laws.only p ahead (length ts) ts b (by_grammar p b ts t))
     where
       by_answer : (o : Result A Stop) → reads_all (length ts) p ts ≡ o → laws.IsReadAs p ahead (length ts) a o → laws.IsReadAs p ahead (length ts) b o → a ≡ b
       by_answer (Ok x) is h g = sym h ∙ g
-      by_answer (Err s') is h g = absurd (no_limit ts s'.0 s'.1 (spelled_fit IsLawfulSymbol lawful_marks p a ts s) h (laws.first p ahead (length ts) ts s'.0 s'.1 is))
+      by_answer (Err s') is h g = absurd (no_limit ts s'.0 s'.1 (spelled_fit IsLawfulSymbol lawful_marks p a ts s) h
+          (laws.first p ahead (length ts) ts s'.0 s'.1 is))

@@ -23,7 +23,8 @@ module _ (text : List ℕ) (ts : List Seen) where
   kept (Ok x) h = laws.kept program program_ahead 32 ts x h
   kept (Err e) h = tt
 
-  pub first : (o : Result Program ReadError) (kind : StopKind) (rest : List Seen) → GivesAll text o (reads_all 32 program ts) → AnswersFault text o kind rest → IsFirstStop program 32 ts kind rest
+  pub first : (o : Result Program ReadError) (kind : StopKind) (rest : List Seen) → GivesAll text o (reads_all 32 program ts)
+      → AnswersFault text o kind rest → IsFirstStop program 32 ts kind rest
   first (Ok y) kind rest h s = absurd s
   first (Err errors.NoMemory) kind rest h s = absurd s
   first (Err (errors.Fault other left)) kind rest h s = rw (s.0, s.1) (laws.first program program_ahead 32 ts other (all_seen text left.now) h)

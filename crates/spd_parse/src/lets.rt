@@ -7,7 +7,7 @@ ghost use Rattle.spd_syntax.specs.Grammar.{let_call, let_named, let_name, let_na
 ghost use Rattle.spd_read.specs.Gives.{Gives};
 
 use crate::calls::called;
-use spd_read::{Read, behind_name, behind_operand, mark, name, nameless_expression, next_is};
+use spd_read::{Held, Read, behind_name, behind_operand, mark, name, nameless_expression, next_is};
 use spd_syntax::{Mark, Name, Stmt, StmtKind, Token};
 use std::alloc::Global;
 
@@ -47,7 +47,9 @@ fn let_named<'a>(
 {
     let (first, rest) = behind_name(alloc, text, depth, first, tokens)?;
     let (value, rest) = behind_operand(alloc, text, depth, 5, first, rest)?;
+    let held = Held { value };
     let (_, rest) = mark(rest, Mark::Semicolon)?;
+    let value = held.release();
     let what = StmtKind::Let { name, value };
     Ok((Stmt { line, what }, rest))
 }
@@ -84,7 +86,9 @@ pub(crate) fn let_nameless<'a>(
     ensures { Gives text.now result (lets line name (reads_at depth let_nameless (all_seen text.now tokens.now))) }
 {
     let (value, rest) = nameless_expression(alloc, text, depth, tokens)?;
+    let held = Held { value };
     let (_, rest) = mark(rest, Mark::Semicolon)?;
+    let value = held.release();
     let what = StmtKind::Let { name, value };
     Ok((Stmt { line, what }, rest))
 }

@@ -19,6 +19,3 @@ mod statements;
 
 pub use laws::spelled_once;
 pub use parsing::{MAX_DEPTH, parse};
-
-#[cfg(test)]
-mod tests;

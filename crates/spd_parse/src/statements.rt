@@ -11,7 +11,7 @@ use crate::calls::run_statement;
 use crate::lets::{let_name, let_nameless};
 use crate::printing::print_statement;
 use spd_read::{
-    Read, ReadError, StopKind, deeper, expression, mark, name, name_and_line, next, word,
+    Held, Read, ReadError, StopKind, deeper, expression, mark, name, name_and_line, next, word,
 };
 use spd_syntax::{Block, Collect, Mark, Name, Stmt, StmtKind, Token, TokenKind, Word};
 use std::alloc::Global;
@@ -95,7 +95,9 @@ fn assign_statement<'a>(
     let ((name, line), rest) = name_and_line(alloc, text, tokens)?;
     let (_, rest) = mark(rest, Mark::Assign)?;
     let (value, rest) = expression(alloc, text, depth, rest)?;
+    let held = Held { value };
     let (_, rest) = mark(rest, Mark::Semicolon)?;
+    let value = held.release();
     let what = StmtKind::Assign { name, value };
     Ok((Stmt { line, what }, rest))
 }
@@ -111,7 +113,9 @@ fn return_statement<'a>(
 {
     let (line, rest) = word(tokens, Word::Return)?;
     let (value, rest) = expression(alloc, text, depth, rest)?;
+    let held = Held { value };
     let (_, rest) = mark(rest, Mark::Semicolon)?;
+    let value = held.release();
     let what = StmtKind::Return { value };
     Ok((Stmt { line, what }, rest))
 }
@@ -127,7 +131,9 @@ fn offer_statement<'a>(
 {
     let (line, rest) = word(tokens, Word::Offer)?;
     let (value, rest) = expression(alloc, text, depth, rest)?;
+    let held = Held { value };
     let (_, rest) = mark(rest, Mark::Semicolon)?;
+    let value = held.release();
     let what = StmtKind::Offer { value };
     Ok((Stmt { line, what }, rest))
 }
@@ -173,13 +179,15 @@ fn for_statement<'a>(alloc: Global, text: &[u8], depth: u32, tokens: &'a [Token]
     let (name, rest) = name(alloc, text, rest)?;
     let (_, rest) = word(rest, Word::In)?;
     let (from, rest) = expression(alloc, text, depth, rest)?;
+    let from = Held { value: from };
     let (_, rest) = mark(rest, Mark::DotDot)?;
     let (to, rest) = expression(alloc, text, depth, rest)?;
+    let to = Held { value: to };
     let (body, rest) = block(alloc, text, depth, rest)?;
     let what = StmtKind::For {
         name,
-        from,
-        to,
+        from: from.release(),
+        to: to.release(),
         body,
     };
     Ok((Stmt { line, what }, rest))
@@ -206,8 +214,10 @@ fn if_statement<'a>(alloc: Global, text: &[u8], depth: u32, tokens: &'a [Token])
 {
     let (line, rest) = word(tokens, Word::If)?;
     let (cond, rest) = expression(alloc, text, depth, rest)?;
+    let cond = Held { value: cond };
     let (yes, rest) = block(alloc, text, depth, rest)?;
     let (no, rest) = otherwise(alloc, text, depth, rest)?;
+    let cond = cond.release();
     let what = StmtKind::If { cond, yes, no };
     Ok((Stmt { line, what }, rest))
 }

@@ -13,7 +13,8 @@ pub value_from-drop : (n : ℕ) (z : List ℕ) (at : ℕ) → at < length z → 
 value_from-drop n z at h = rw (add-one, drop-cons z at 0 h) refl
 
 -- A number that is too great already is too great with more digits.
-pub too_great : (n : ℕ) (z : List ℕ) (at v : ℕ) → at < length z → greatest_literal < n * 10 + (get_or z at 0 - 48) → value_from n (drop at z) ≡ v → leb v greatest_literal ≡ false
+pub too_great : (n : ℕ) (z : List ℕ) (at v : ℕ) → at < length z → greatest_literal < n * 10 + (get_or z at 0 - 48) → value_from n (drop at z) ≡ v
+    → leb v greatest_literal ≡ false
 too_great n z at v h large e =
     let more : value_from (n * 10 + (get_or z at 0 - 48)) (drop (at + 1) z) ≡ v = sym (value_from-drop n z at h) ∙ e in
     lt-leb v greatest_literal (omega (arith, more, large, value_from-grows (n * 10 + (get_or z at 0 - 48)) (drop (at + 1) z)))

@@ -24,7 +24,8 @@ module _ (A : Type 0) (ks : List TokenKind) (step : A → List Seen → Read A) 
       let k : limit - i ≡ suc (limit - (i + 1)) = omega arith in
       rw (k, one (limit - (i + 1)) found ts e, given) refl
 
-  pub fails : (text : List ℕ) (error : ReadError) (limit i : ℕ) (found : A) (ts : List Seen) (total : Read A) → i < limit → next_in ks ts ≡ true → Fails text error (step found ts)
+  pub fails : (text : List ℕ) (error : ReadError) (limit i : ℕ) (found : A) (ts : List Seen) (total : Read A) → i < limit → next_in ks ts ≡ true
+      → Fails text error (step found ts)
       → repeat ks step (limit - i) found ts ≡ total → Fails text error total
   fails text errors.NoMemory limit i found ts total lt e given so_far = tt
   fails text (errors.Fault kind rest) limit i found ts total lt e given so_far =

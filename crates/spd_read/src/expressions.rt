@@ -1,51 +1,22 @@
 // Reading expressions.
 
-ghost use Rattle.std.specs.Prelude.{◌≡◌, ◌≤◌, ◌<◌, ◌+◌, ◌==◌, ℕ, List, true, false, [], ◌∷◌, length, MatchOption, pos, nat_le};
-ghost use Rattle.spd_syntax.specs.Symbols.{all_seen, kind_of, same_kind, value_of, greatest_literal};
-ghost use Rattle.spd_syntax.specs.Tokens.{seen};
-ghost use Rattle.spd_read.specs.Reading.{next_in, reads_at, applied, step, loops, grouped_at};
-ghost use Rattle.spd_syntax.specs.Grammar.{literal, behind_name, name_led, parens, len_of, size_of, at_of, same_of, begins_of, nameless, primary, unary_operator, signed, unary, nameless_unary, comparisons, operators, operator_in, operator, operation, into, behind_operand, at_level, nameless_expression, expression, place, two_places, place_text};
+ghost use Rattle.std.specs.Prelude.{◌≤◌, ◌<◌, ◌+◌, ◌==◌};
+ghost use Rattle.spd_syntax.specs.Symbols.{all_seen};
+ghost use Rattle.spd_syntax.specs.Grammar.{behind_name, name_led, parens, len_of, size_of, at_of, same_of, begins_of, nameless, primary, signed, unary, nameless_unary, comparisons, operators, operation, into, behind_operand, at_level, nameless_expression, expression, place, two_places, place_text};
+ghost use Rattle.spd_read.specs.Reading.{reads_at, applied, step, loops, grouped_at};
 ghost use Rattle.spd_read.specs.Gives.{Gives};
-ghost use Rattle.spd_syntax.specs.declared.token.TokenKind.TheVariants as kinds;
-ghost use Rattle.spd_syntax.specs.declared.operators.TheConstants.{OPERATORS};
 
-use crate::reading::{Read, ReadError, StopKind};
-use crate::tokens::{deeper, lit, mark, name, next, next_is, text_of, word};
-use spd_syntax::{BinOp, Expr, Lit, Mark, Name, OPERATORS, Token, TokenKind, UnOp, Word};
+use crate::held::Held;
+use crate::literals::literal;
+use crate::operators::{next_is_operator, operator, unary_operator};
+use crate::reading::Read;
+use crate::tokens::{deeper, lit, mark, name, next, next_is, word};
+use spd_syntax::{Expr, Lit, Mark, Name, Token, TokenKind, Word};
 use sqlite_items::Boxed;
 use std::alloc::Global;
 
 /// The level of the operators that don't group.
 const COMPARISONS: u32 = 3;
-
-/// The value of digits, if it is a literal's.
-fn value(digits: &[u8]) -> Option<i64>
-    ensures { MatchOption result (nat_le (value_of digits.now) greatest_literal ≡ false)
-        (λ v. (v ≡ pos (value_of digits.now)) × (nat_le (value_of digits.now) greatest_literal ≡ true)) }
-{
-    let mut value: u64 = 0;
-    for digit in digits {
-        let digit = u64::from(digit.saturating_sub(b'0'));
-        value = value.checked_mul(10)?.checked_add(digit)?;
-    }
-    i64::try_from(value).ok()
-}
-
-#[tactic(auto, unfolding(spd_syntax::specs::Grammar::literal))]
-fn literal<'a>(text: &[u8], tokens: &'a [Token]) -> Read<'a, Expr>
-    ensures { (depth : ℕ) → Gives text.now result (reads_at depth literal (all_seen text.now tokens.now)) }
-{
-    match tokens {
-        [token, rest @ ..] => match token.kind {
-            TokenKind::Number => match value(text_of(text, token)) {
-                Some(value) => Ok((Expr::Number(value), rest)),
-                None => Err(ReadError::Fault(StopKind::Literal, tokens)),
-            },
-            _ => Err(ReadError::Fault(StopKind::Expected, tokens)),
-        },
-        [] => Err(ReadError::Fault(StopKind::Expected, tokens)),
-    }
-}
 
 #[cycle(expr)]
 #[tactic(auto, unfolding(spd_syntax::specs::Grammar::parens))]
@@ -55,8 +26,9 @@ fn parens<'a>(alloc: Global, text: &[u8], depth: u32, tokens: &'a [Token]) -> Re
     let (_, rest) = mark(tokens, Mark::LeftParen)?;
     let depth = deeper(depth, tokens)?;
     let (value, rest) = expression(alloc, text, depth, rest)?;
+    let held = Held { value };
     let (_, rest) = mark(rest, Mark::RightParen)?;
-    Ok((value, rest))
+    Ok((held.release(), rest))
 }
 
 /// Reads what may stand behind a name.
@@ -77,8 +49,9 @@ pub fn behind_name<'a>(
     let (_, rest) = mark(tokens, Mark::LeftBracket)?;
     let depth = deeper(depth, tokens)?;
     let (place, rest) = expression(alloc, text, depth, rest)?;
+    let place = Boxed::new(alloc, place)?;
     let (_, rest) = mark(rest, Mark::RightBracket)?;
-    Ok((Expr::Index(name, Boxed::new(alloc, place)?), rest))
+    Ok((Expr::Index(name, place), rest))
 }
 
 #[cycle(expr)]
@@ -104,13 +77,18 @@ fn len_of<'a>(alloc: Global, text: &[u8], depth: u32, tokens: &'a [Token]) -> Re
 
 #[cycle(expr)]
 #[tactic(auto, unfolding(spd_syntax::specs::Grammar::place))]
-fn place<'a>(alloc: Global, text: &[u8], depth: u32, tokens: &'a [Token]) -> Read<'a, (Name, Expr)>
+fn place<'a>(
+    alloc: Global,
+    text: &[u8],
+    depth: u32,
+    tokens: &'a [Token],
+) -> Read<'a, (Name, Boxed<Expr>)>
     ensures { Gives text.now result (reads_at depth place (all_seen text.now tokens.now)) }
 {
     let (name, rest) = name(alloc, text, tokens)?;
     let (_, rest) = mark(rest, Mark::Comma)?;
     let (place, rest) = expression(alloc, text, depth, rest)?;
-    Ok(((name, place), rest))
+    Ok(((name, Boxed::new(alloc, place)?), rest))
 }
 
 #[cycle(expr)]
@@ -123,7 +101,7 @@ fn size_of<'a>(alloc: Global, text: &[u8], depth: u32, tokens: &'a [Token]) -> R
     let depth = deeper(depth, here)?;
     let ((name, place), rest) = place(alloc, text, depth, rest)?;
     let (_, rest) = mark(rest, Mark::RightParen)?;
-    Ok((Expr::Size(name, Boxed::new(alloc, place)?), rest))
+    Ok((Expr::Size(name, place), rest))
 }
 
 #[cycle(expr)]
@@ -133,14 +111,16 @@ fn two_places<'a>(
     text: &[u8],
     depth: u32,
     tokens: &'a [Token],
-) -> Read<'a, (Name, Expr, Expr)>
+) -> Read<'a, (Name, Boxed<Expr>, Boxed<Expr>)>
     ensures { Gives text.now result (reads_at depth two_places (all_seen text.now tokens.now)) }
 {
     let (name, rest) = name(alloc, text, tokens)?;
     let (_, rest) = mark(rest, Mark::Comma)?;
     let (place, rest) = expression(alloc, text, depth, rest)?;
+    let place = Boxed::new(alloc, place)?;
     let (_, rest) = mark(rest, Mark::Comma)?;
     let (byte, rest) = expression(alloc, text, depth, rest)?;
+    let byte = Boxed::new(alloc, byte)?;
     Ok(((name, place, byte), rest))
 }
 
@@ -154,10 +134,7 @@ fn at_of<'a>(alloc: Global, text: &[u8], depth: u32, tokens: &'a [Token]) -> Rea
     let depth = deeper(depth, here)?;
     let ((name, place, byte), rest) = two_places(alloc, text, depth, rest)?;
     let (_, rest) = mark(rest, Mark::RightParen)?;
-    Ok((
-        Expr::At(name, Boxed::new(alloc, place)?, Boxed::new(alloc, byte)?),
-        rest,
-    ))
+    Ok((Expr::At(name, place, byte), rest))
 }
 
 #[cycle(expr)]
@@ -167,12 +144,13 @@ fn place_text<'a>(
     text: &[u8],
     depth: u32,
     tokens: &'a [Token],
-) -> Read<'a, (Name, Expr, Lit)>
+) -> Read<'a, (Name, Boxed<Expr>, Lit)>
     ensures { Gives text.now result (reads_at depth place_text (all_seen text.now tokens.now)) }
 {
     let (name, rest) = name(alloc, text, tokens)?;
     let (_, rest) = mark(rest, Mark::Comma)?;
     let (place, rest) = expression(alloc, text, depth, rest)?;
+    let place = Boxed::new(alloc, place)?;
     let (_, rest) = mark(rest, Mark::Comma)?;
     let (found, rest) = lit(alloc, text, rest)?;
     Ok(((name, place, found), rest))
@@ -188,7 +166,7 @@ fn same_of<'a>(alloc: Global, text: &[u8], depth: u32, tokens: &'a [Token]) -> R
     let depth = deeper(depth, here)?;
     let ((name, place, found), rest) = place_text(alloc, text, depth, rest)?;
     let (_, rest) = mark(rest, Mark::RightParen)?;
-    Ok((Expr::Same(name, Boxed::new(alloc, place)?, found), rest))
+    Ok((Expr::Same(name, place, found), rest))
 }
 
 #[cycle(expr)]
@@ -201,7 +179,7 @@ fn begins_of<'a>(alloc: Global, text: &[u8], depth: u32, tokens: &'a [Token]) ->
     let depth = deeper(depth, here)?;
     let ((name, place, found), rest) = place_text(alloc, text, depth, rest)?;
     let (_, rest) = mark(rest, Mark::RightParen)?;
-    Ok((Expr::Begins(name, Boxed::new(alloc, place)?, found), rest))
+    Ok((Expr::Begins(name, place, found), rest))
 }
 
 /// Reads a primary that doesn't begin with a name.
@@ -229,21 +207,6 @@ fn primary<'a>(alloc: Global, text: &[u8], depth: u32, tokens: &'a [Token]) -> R
     match next(tokens) {
         Some(TokenKind::Name) => name_led(alloc, text, depth, tokens),
         _ => nameless(alloc, text, depth, tokens),
-    }
-}
-
-#[tactic(auto, unfolding(spd_syntax::specs::Grammar::unary_operator, spd_syntax::specs::Symbols::same_mark))]
-fn unary_operator<'a>(tokens: &'a [Token]) -> Read<'a, UnOp>
-    ensures { (text : List ℕ) (depth : ℕ) → Gives text result
-        (reads_at depth unary_operator (all_seen text tokens.now)) }
-{
-    match tokens {
-        [token, rest @ ..] => match token.kind {
-            TokenKind::Mark(Mark::Minus) => Ok((UnOp::Neg, rest)),
-            TokenKind::Mark(Mark::Not) => Ok((UnOp::Not, rest)),
-            _ => Err(ReadError::Fault(StopKind::Expected, tokens)),
-        },
-        [] => Err(ReadError::Fault(StopKind::Expected, tokens)),
     }
 }
 
@@ -279,49 +242,6 @@ fn nameless_unary<'a>(alloc: Global, text: &[u8], depth: u32, tokens: &'a [Token
     }
 }
 
-/// The operator of a level that a mark is.
-#[tactic(auto, unfolding(spd_syntax::specs::Grammar::operator_in, spd_syntax::specs::Symbols::same_mark))]
-fn operator_of(mark: Mark, level: u32) -> Option<BinOp>
-    ensures { result ≡ operator_in level mark OPERATORS }
-{
-    let mut table = OPERATORS.as_slice();
-    while let [row, rest @ ..] = table {
-        if row.2 == level && row.0 == mark {
-            return Some(row.1);
-        }
-        table = rest;
-    }
-    None
-}
-
-/// Whether an operator of a level stands next.
-#[tactic(auto, unfolding(spd_syntax::specs::Grammar::operators), using(crate::proofs::Operators::tested, crate::proofs::Operators::untested))]
-fn next_is_operator(tokens: &[Token], level: u32) -> bool
-    ensures { (text : List ℕ) → result ≡ next_in (operators level) (all_seen text tokens.now) }
-{
-    match next(tokens) {
-        Some(TokenKind::Mark(mark)) => operator_of(mark, level).is_some(),
-        _ => false,
-    }
-}
-
-#[tactic(auto, unfolding(spd_syntax::specs::Grammar::operator), using(crate::proofs::Operators::found, crate::proofs::Operators::unfound))]
-fn operator<'a>(tokens: &'a [Token], level: u32) -> Read<'a, BinOp>
-    ensures { (text : List ℕ) (depth : ℕ) → Gives text result
-        (reads_at depth (operator level) (all_seen text tokens.now)) }
-{
-    let [token, rest @ ..] = tokens else {
-        return Err(ReadError::Fault(StopKind::Expected, tokens));
-    };
-    match token.kind {
-        TokenKind::Mark(mark) => match operator_of(mark, level) {
-            Some(op) => Ok((op, rest)),
-            None => Err(ReadError::Fault(StopKind::Expected, tokens)),
-        },
-        _ => Err(ReadError::Fault(StopKind::Expected, tokens)),
-    }
-}
-
 /// Reads an operator of a level with its right operand.
 #[cycle(expr)]
 #[tactic(auto, unfolding(spd_syntax::specs::Grammar::operation))]
@@ -337,12 +257,11 @@ fn operation<'a>(
     ensures { Gives text.now result
         (step depth into (operation (level + 1) (at_level level)) left (all_seen text.now tokens.now)) }
 {
+    let left = Boxed::new(alloc, left)?;
     let (op, rest) = operator(tokens, level + 1)?;
     let (right, rest) = at_level(alloc, text, depth, level, rest)?;
-    Ok((
-        Expr::Binary(op, Boxed::new(alloc, left)?, Boxed::new(alloc, right)?),
-        rest,
-    ))
+    let right = Boxed::new(alloc, right)?;
+    Ok((Expr::Binary(op, left, right), rest))
 }
 
 /// Reads the operators of a level, with what stands behind them.

@@ -5,9 +5,13 @@
 #![tactic(auto)]
 
 mod expressions;
+mod held;
+mod literals;
+mod operators;
 mod reading;
 mod tokens;
 
 pub use expressions::{behind_name, behind_operand, expression, nameless_expression};
+pub use held::Held;
 pub use reading::{Read, ReadError, StopKind};
 pub use tokens::{deeper, lit, mark, name, name_and_line, next, next_is, word};

@@ -86,7 +86,8 @@ pub in_table : {A : Type 0} (k : TokenKind) (table : List (TokenKind × A)) (a :
 in_table k [] a e = absurd cc
 in_table k (row ∷ rows) a e = by_test (same_kind row.0 k) (λ h. in_table k rows a h) e
   where
-    by_test : (b : Bool) → (entry_of k rows ≡ Some a → is_in k (map fst rows) ≡ true) → cond b (Some row.1) (entry_of k rows) ≡ Some a → (b || is_in k (map fst rows)) ≡ true
+    by_test : (b : Bool) → (entry_of k rows ≡ Some a → is_in k (map fst rows) ≡ true) → cond b (Some row.1) (entry_of k rows) ≡ Some a
+        → (b || is_in k (map fst rows)) ≡ true
     by_test true go e = refl
     by_test false go e = go e
 

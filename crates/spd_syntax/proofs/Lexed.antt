@@ -84,13 +84,15 @@ token_holds : (b : ℕ) (z : List ℕ) (k : TokenKind) (n : ℕ) → token (b �
 unfolding token word_or_name
 token_holds b z k n h = by_tests (begins_name b) (is_ascii_digit b) (b == 34) refl refl refl h
   where
-    by_word : (o : Option Word) → begins_name b ≡ true → word_of (b ∷ take (prefix_len is_in_name z) z) ≡ o → IsTextSymbol (symbol (kind_of_word o) (b ∷ take (prefix_len is_in_name z) z))
+    by_word : (o : Option Word) → begins_name b ≡ true → word_of (b ∷ take (prefix_len is_in_name z) z) ≡ o
+        → IsTextSymbol (symbol (kind_of_word o) (b ∷ take (prefix_len is_in_name z) z))
     by_word (Some which) e w = tt
     by_word None e w = (e, all_of_prefix is_in_name z, w)
 
     by_mark : (o : Option (Mark × ℕ)) → mark_to o ≡ Ok (k, n) → IsTextSymbol (symbol k (take n (b ∷ z)))
     by_mark None e = absurd cc
-    by_mark (Some found) e = let same : (kind.Mark found.0, found.1) ≡ (k, n) = cc in subst (λ (p : TokenKind × ℕ). IsTextSymbol (symbol p.0 (take p.1 (b ∷ z)))) same tt
+    by_mark (Some found) e = let same : (kind.Mark found.0, found.1) ≡ (k, n) = cc in
+        subst (λ (p : TokenKind × ℕ). IsTextSymbol (symbol p.0 (take p.1 (b ∷ z)))) same tt
 
     by_string : (o : Result ℕ LexKind) → (b == 34) ≡ true → string_end false 1 z ≡ o → lit_to o ≡ Ok (k, n) → IsTextSymbol (symbol k (take n (b ∷ z)))
     by_string (Err f) e s h = absurd cc
@@ -111,7 +113,8 @@ token_holds b z k n h = by_tests (begins_name b) (is_ascii_digit b) (b == 34) re
         let m : prefix_len is_in_name (b ∷ z) ≡ suc (prefix_len is_in_name z) = rw (in_name b es) (omega arith) in
         let same : (word_or_name (take (prefix_len is_in_name (b ∷ z)) (b ∷ z)), prefix_len is_in_name (b ∷ z)) ≡ (k, n) = cc in
         subst (λ (p : TokenKind × ℕ). IsTextSymbol (symbol p.0 (take p.1 (b ∷ z)))) same
-        (subst (λ (i : ℕ). IsTextSymbol (symbol (word_or_name (take i (b ∷ z))) (take i (b ∷ z)))) (sym m) (by_word (word_of (b ∷ take (prefix_len is_in_name z) z)) es refl))
+        (subst (λ (i : ℕ). IsTextSymbol (symbol (word_or_name (take i (b ∷ z))) (take i (b ∷ z)))) (sym m)
+        (by_word (word_of (b ∷ take (prefix_len is_in_name z) z)) es refl))
     by_tests false true q es ed eq h =
         let m : prefix_len is_ascii_digit (b ∷ z) ≡ suc (prefix_len is_ascii_digit z) = rw ed (omega arith) in
         let same : (kind.Number, prefix_len is_ascii_digit (b ∷ z)) ≡ (k, n) = cc in
@@ -126,27 +129,33 @@ next : (text : List ℕ) (b : ℕ) (z : List ℕ) (at : ℕ) → drop at text �
 next text b z at e = sym (drop-drop 1 at text) ∙ ap (drop 1) e
 
 module _ (text : List ℕ) where
-  tokens_hold : (skip at line : ℕ) (z : List ℕ) → drop at text ≡ z → (ts : List Token) → tokens_from skip at line z ≡ Ok ts → Eachly IsTextSymbol (all_seen text ts)
+  tokens_hold : (skip at line : ℕ) (z : List ℕ) → drop at text ≡ z → (ts : List Token) → tokens_from skip at line z ≡ Ok ts
+      → Eachly IsTextSymbol (all_seen text ts)
   unfolding tokens_from
   tokens_hold skip at line [] here ts h = let none : [] ≡ ts = cc in subst (λ (us : List Token). Eachly IsTextSymbol (all_seen text us)) none tt
   tokens_hold (suc skip) at line (b ∷ z) here ts h = tokens_hold skip (at + 1) line z (next text b z at here) ts h
   tokens_hold zero at line (b ∷ z) here ts h =
       by_tests (b == 10) (is_blank b) (b == 35) (token (b ∷ z)) refl h (λ skip l us g. tokens_hold skip (at + 1) l z (next text b z at here) us g)
     where
-      by_rest : (k : TokenKind) (n : ℕ) (o : Result (List Token) LexFault) → token (b ∷ z) ≡ Ok (k, n) → with_front (token_of at line (k, n) ∷ []) o ≡ Ok ts → ((us : List Token) → o ≡ Ok us → Eachly IsTextSymbol (all_seen text us)) → Eachly IsTextSymbol (all_seen text ts)
+      by_rest : (k : TokenKind) (n : ℕ) (o : Result (List Token) LexFault) → token (b ∷ z) ≡ Ok (k, n) → with_front (token_of at line (k, n) ∷ []) o ≡ Ok ts
+          → ((us : List Token) → o ≡ Ok us → Eachly IsTextSymbol (all_seen text us)) → Eachly IsTextSymbol (all_seen text ts)
       by_rest k n (Err f) is e go = absurd cc
       by_rest k n (Ok us) is e go =
           let same : token_of at line (k, n) ∷ us ≡ ts = cc in
           let size : at + n - at ≡ n = omega arith in
           subst (λ (vs : List Token). Eachly IsTextSymbol (all_seen text vs)) same ((rw (size, here) (token_holds b z k n is)), go us refl)
 
-      by_token : (o : Result (TokenKind × ℕ) LexKind) → token (b ∷ z) ≡ o → token_then at line o (λ skip. tokens_from skip (at + 1) line z) ≡ Ok ts → ((skip l : ℕ) (us : List Token) → tokens_from skip (at + 1) l z ≡ Ok us → Eachly IsTextSymbol (all_seen text us)) → Eachly IsTextSymbol (all_seen text ts)
+      by_token : (o : Result (TokenKind × ℕ) LexKind) → token (b ∷ z) ≡ o → token_then at line o (λ skip. tokens_from skip (at + 1) line z) ≡ Ok ts
+          → ((skip l : ℕ) (us : List Token) → tokens_from skip (at + 1) l z ≡ Ok us → Eachly IsTextSymbol (all_seen text us))
+          → Eachly IsTextSymbol (all_seen text ts)
       by_token (Err f) is e go = absurd cc
       by_token (Ok found) is e go = by_rest found.0 found.1 (tokens_from (found.1 - 1) (at + 1) line z) is e (λ us g. go (found.1 - 1) line us g)
 
       by_tests : (n k c : Bool) (o : Result (TokenKind × ℕ) LexKind) → token (b ∷ z) ≡ o
-          → cond n (tokens_from zero (at + 1) (line + 1) z) (cond k (tokens_from zero (at + 1) line z) (cond c (tokens_from (prefix_len is_in_comment z) (at + 1) line z) (token_then at line o (λ skip. tokens_from skip (at + 1) line z)))) ≡ Ok ts
-          → ((skip l : ℕ) (us : List Token) → tokens_from skip (at + 1) l z ≡ Ok us → Eachly IsTextSymbol (all_seen text us)) → Eachly IsTextSymbol (all_seen text ts)
+          → cond n (tokens_from zero (at + 1) (line + 1) z) (cond k (tokens_from zero (at + 1) line z)
+          (cond c (tokens_from (prefix_len is_in_comment z) (at + 1) line z) (token_then at line o (λ skip. tokens_from skip (at + 1) line z)))) ≡ Ok ts
+          → ((skip l : ℕ) (us : List Token) → tokens_from skip (at + 1) l z ≡ Ok us → Eachly IsTextSymbol (all_seen text us))
+          → Eachly IsTextSymbol (all_seen text ts)
       by_tests true k c o is e go = go zero (line + 1) ts e
       by_tests false true c o is e go = go zero line ts e
       by_tests false false true o is e go = go (prefix_len is_in_comment z) line ts e
@@ -170,7 +179,11 @@ lawful_of (mark which) h g = tt
 
 pub kept_lawful : (limit n : ℕ) (ts : List Seen) → Eachly IsTextSymbol ts → Keeps limit n ts → Eachly IsLawfulSymbol ts
 kept_lawful limit n [] h k = tt
-kept_lawful limit n (t ∷ ts) h k = (lawful_of t.0 h.0 (by_tests (is_great t.0) (is_in (kind_of t.0) opening && nat_le limit n) k.0), kept_lawful limit (open_with n t.0) ts h.1 k.1)
+kept_lawful limit n (t ∷ ts) h k = (
+  lawful_of t.0 h.0 (by_tests (is_great t.0) (is_in (kind_of t.0) opening && nat_le limit n) k.0),
+  kept_lawful limit
+      (open_with n t.0) ts h.1 k.1,
+)
   where
     by_tests : (g d : Bool) → cond g (Some fault.Literal) (cond d (Some fault.TooDeep) None) ≡ None → g ≡ false
     by_tests true d e = absurd cc

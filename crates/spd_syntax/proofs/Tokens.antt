@@ -28,7 +28,8 @@ in_order-to from at to [] order le = omega arith
 in_order-to from at to (token ∷ tokens) order le = (order.0, order.1, in_order-to token.end at to tokens order.2 le)
 
 -- One more token stands behind those up to its start.
-pub in_order-push : (from : ℕ) (tokens : List Token) (token : Token) → AreInOrder from tokens token.start → token.start < token.end → AreInOrder from (tokens ++ token ∷ []) token.end
+pub in_order-push : (from : ℕ) (tokens : List Token) (token : Token) → AreInOrder from tokens token.start → token.start < token.end
+    → AreInOrder from (tokens ++ token ∷ []) token.end
 in_order-push from [] token order some = (order, some, omega arith)
 in_order-push from (first ∷ tokens) token order some = (order.0, order.1, in_order-push first.end tokens token order.2 some)
 
@@ -69,7 +70,8 @@ module _ (text : List ℕ) (at line : ℕ) (inside : at < length text) where
   at_blank newline h = rw (cell, ne_eqb _ _ newline, h) refl
 
   -- a comment with so many bytes behind its mark
-  pub at_comment : (n : ℕ) → get_or text at 0 ≢ 10 → is_blank (get_or text at 0) ≡ false → get_or text at 0 ≡ 35 → n ≡ prefix_len is_in_comment (drop (at + 1) text)
+  pub at_comment : (n : ℕ) → get_or text at 0 ≢ 10 → is_blank (get_or text at 0) ≡ false → get_or text at 0 ≡ 35
+      → n ≡ prefix_len is_in_comment (drop (at + 1) text)
       → tokens_from 0 at line (drop at text) ≡ tokens_from 0 (at + 1 + n) line (drop (at + 1 + n) text)
   unfolding tokens_from
   at_comment n newline blank h e =

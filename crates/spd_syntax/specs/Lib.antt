@@ -7,7 +7,3 @@ pub mod PageForms
 pub mod OneAhead
 pub mod Limits
 pub mod Faults
-pub mod Canonical
-pub mod Layout
-pub mod Lines
-pub mod Texts

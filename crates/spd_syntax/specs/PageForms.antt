@@ -12,7 +12,7 @@
 -- primary  = number | name | "(" expr ")" | name "[" expr "]" | "len" "(" name ")" | ..
 --
 -- Both forms spell the same.
-use Rattle.std.specs.Prelude.{ℕ, [], ◌∷◌, List}
+use Rattle.std.specs.Prelude.{ℕ, []}
 use Rattle.spd_syntax.specs.declared.token.Word.TheVariants as w
 use Rattle.spd_syntax.specs.declared.token.Mark.TheVariants as m
 use Rattle.spd_syntax.specs.declared.tree.Expr.{Expr}

@@ -6,7 +6,8 @@ ghost use Rattle.std.specs.List.{prefix_len};
 ghost use Rattle.spd_syntax.specs.Tokens as spec;
 ghost use Rattle.spd_syntax.specs.Tokens.{AreInOrder, tokens_of};
 
-use crate::token::{MARKS, Mark, Token, TokenKind, Tokens, WORDS, Word};
+use crate::spelled::{double_mark, single_mark, word_of};
+use crate::token::{Mark, Token, TokenKind, Tokens};
 use std::alloc::Global;
 use thiserror::Error;
 
@@ -119,37 +120,15 @@ fn string_len(mut z: &[u8]) -> Result<usize, LexKind>
     Err(LexKind::OpenString)
 }
 
-/// The entry of a table that is spelled so.
-fn lookup<T: Copy>(mut table: &[(&[u8], T)], text: &[u8]) -> Option<T>
-    ensures { result ≡ spec.lookup (map (λ entry. (entry.0.now, entry.1)) table.entry.now) text.now }
-{
-    while let [entry, rest @ ..] = table {
-        if entry.0 == text {
-            return Some(entry.1);
-        }
-        table = rest;
-    }
-    None
-}
-
 /// The word that is spelled so, or a name.
 #[tactic(auto, unfolding(crate::specs::Tokens::word_or_name))]
 fn word_or_name(text: &[u8]) -> TokenKind
     ensures { result ≡ spec.word_or_name text.now }
 {
-    match lookup(&WORDS, text) {
+    match word_of(text) {
         Some(word) => TokenKind::Word(word),
         None => TokenKind::Name,
     }
-}
-
-/// The mark that is spelled so, and its length.
-fn mark(text: &[u8]) -> Option<(Mark, usize)>
-    ensures value { result ≡ spec.mark_and_length text.now }
-    ensures whole { IfSome result (λ found. found.1 ≡ length text.now) }
-{
-    let mark = lookup(&MARKS, text)?;
-    Some((mark, text.len()))
 }
 
 /// The longest mark at the front, and its length.
@@ -159,7 +138,14 @@ fn longest_mark(z: &[u8]) -> Option<(Mark, usize)>
     ensures value { result ≡ spec.longest_mark z.now }
     ensures within { IfSome result (λ found. (1 ≤ found.1) × (found.1 ≤ length z.now)) }
 {
-    mark(&z[..z.len().min(2)]).or_else(|| mark(&z[..1]))
+    match z {
+        [first, second, ..] => match double_mark(*first, *second) {
+            Some(mark) => Some((mark, 2)),
+            None => Some((single_mark(*first)?, 1)),
+        },
+        [first] => Some((single_mark(*first)?, 1)),
+        [] => None,
+    }
 }
 
 /// The token at the front, and its length.

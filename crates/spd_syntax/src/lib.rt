@@ -6,10 +6,7 @@ mod fault;
 mod laws;
 mod lexing;
 mod operators;
-mod page;
-mod print_expressions;
-mod print_statements;
-mod printing;
+mod spelled;
 mod token;
 mod tree;
 
@@ -18,14 +15,8 @@ pub use fault::{ParseFault, ParseKind};
 pub use laws::{expressions_are_the_page, lets_are_the_page};
 pub use lexing::{LexFault, LexKind, lex};
 pub use operators::OPERATORS;
-pub use printing::print_program;
 pub use token::{MARKS, Mark, Token, TokenKind, Tokens, WORDS, Word};
 pub use tree::{
     BinOp, Block, Collect, Expr, Exprs, Item, ItemKind, Items, Lit, Name, Names, Parts, PrintPart,
     Program, Stmt, StmtKind, UnOp,
 };
-
-#[cfg(test)]
-mod print_tests;
-#[cfg(test)]
-mod tests;

@@ -1,7 +1,8 @@
 // Texts with the canonical texts of their programs.
 
+use spd_canonical::print_program;
 use spd_parse::parse;
-use spd_syntax::{lex, print_program};
+use spd_syntax::lex;
 use std::alloc::Global;
 use std::test::Fail;
 

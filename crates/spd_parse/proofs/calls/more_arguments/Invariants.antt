@@ -7,4 +7,5 @@ use Rattle.spd_syntax.specs.Grammar.{expression}
 use Rattle.spd_parse.proofs.calls.more_arguments.Given as goal
 
 abbrev pub invariant-loop : goal.invariant-loop
-invariant-loop l = repeat (a_mark Comma) (step l.depth snoc (after_mark Comma expression)) (l.limit - l.counter) l.found (all_seen l.text l.rest) ≡ loops l.depth (a_mark Comma) snoc (after_mark Comma expression) (l.fn.first ∷ []) (all_seen l.text l.fn.tokens)
+invariant-loop l = repeat (a_mark Comma) (step l.depth snoc (after_mark Comma expression)) (l.limit - l.counter) l.found (all_seen l.text l.rest)
+    ≡ loops l.depth (a_mark Comma) snoc (after_mark Comma expression) (l.fn.first ∷ []) (all_seen l.text l.fn.tokens)

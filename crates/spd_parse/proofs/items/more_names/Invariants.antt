@@ -6,4 +6,5 @@ use Rattle.spd_syntax.specs.Shapes.{after_mark, snoc, a_mark, name}
 use Rattle.spd_parse.proofs.items.more_names.Given as goal
 
 abbrev pub invariant-loop : goal.invariant-loop
-invariant-loop l = repeat (a_mark Comma) (step 0 snoc (after_mark Comma name)) (l.limit - l.counter) l.found (all_seen l.text l.rest) ≡ loops 0 (a_mark Comma) snoc (after_mark Comma name) (l.fn.first ∷ []) (all_seen l.text l.fn.tokens)
+invariant-loop l = repeat (a_mark Comma) (step 0 snoc (after_mark Comma name)) (l.limit - l.counter) l.found (all_seen l.text l.rest)
+    ≡ loops 0 (a_mark Comma) snoc (after_mark Comma name) (l.fn.first ∷ []) (all_seen l.text l.fn.tokens)

@@ -7,5 +7,10 @@ use Rattle.spd_parse.proofs.parsing.answer.Goals as goal
 
 pub read_all-requires : goal.read_all-requires
 read_all-requires c = record {
-  kept = whole_of (all_seen c.args.text.now c.args.tokens.now) (omega (arith, c.first_over-place.ensures.place c.args.text.now, c.if-place-tokens.false, length-map c.args.tokens.now (seen c.args.text.now)));
+  kept = whole_of (all_seen c.args.text.now c.args.tokens.now) (omega (
+    arith,
+    c.first_over-place.ensures.place c.args.text.now,
+    c.if-place-tokens.false,
+    length-map c.args.tokens.now (seen c.args.text.now),
+  ));
 }

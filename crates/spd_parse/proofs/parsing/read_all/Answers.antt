@@ -12,4 +12,5 @@ returns-in-Err-Fault-clause-first c =
     let kind = c.in-Err-Fault.kind in
     let rest = all_seen text c.in-Err-Fault.rest.now in
     let answers = subst (λ (e : ReadError). AnswersFault {A = Program} text (Err e) kind rest) (sym c.in-Err-Fault.field-0-is) (refl, refl) in
-    inr (all_stop (all_seen text c.args.tokens.now) kind rest c.requires.kept (c.in-Err-Fault.ensures.first kind rest answers) _ c.kind_of-kind.ensures (c.line_of-line.ensures text))
+    inr (all_stop (all_seen text c.args.tokens.now) kind rest c.requires.kept (c.in-Err-Fault.ensures.first kind rest answers) _ c.kind_of-kind.ensures
+    (c.line_of-line.ensures text))

@@ -6,7 +6,8 @@ use Rattle.spd_syntax.specs.Grammar.{a_statement, statement}
 use Rattle.spd_parse.proofs.statements.+block.Given as goal
 
 abbrev pub invariant-more_statements-loop : goal.invariant-more_statements-loop
-invariant-more_statements-loop l = repeat a_statement (step l.depth snoc statement) (l.limit - l.counter) l.found (all_seen l.text l.rest) ≡ loops l.depth a_statement snoc statement [] (all_seen l.text l.fn.tokens)
+invariant-more_statements-loop l = repeat a_statement (step l.depth snoc statement) (l.limit - l.counter) l.found (all_seen l.text l.rest)
+    ≡ loops l.depth a_statement snoc statement [] (all_seen l.text l.fn.tokens)
 
 abbrev pub decreases-block : goal.decreases-block
 decreases-block l = 8 * l.depth + 0

@@ -11,18 +11,26 @@ pub behind_operand-returns-then-level-eq0 : goal.behind_operand-returns-then-lev
 behind_operand-returns-then-level-eq0 t c = at_zero c.args.depth c.args.level c.args.first (all_seen c.args.text.now c.args.tokens.now) c.if-level-eq0.true
 
 pub behind_operand-returns : goal.behind_operand-returns
-behind_operand-returns t c = rw (at_more c.args.depth c.args.level c.args.first (all_seen c.args.text.now c.args.tokens.now) c.if-level-eq0.false) c.grouped.ensures
+behind_operand-returns t c = rw (at_more c.args.depth c.args.level c.args.first (all_seen c.args.text.now c.args.tokens.now) c.if-level-eq0.false)
+    c.grouped.ensures
 
 pub operations-returns-then-not-next_is_operator : goal.operations-returns-then-not-next_is_operator
-operations-returns-then-not-next_is_operator t c = sym c.loop.invariant ∙ r.stops _ (operators (c.args.level + 1)) (step c.args.depth into (operation (c.args.level + 1) (at_level c.args.level))) _ c.loop.left _ (sym (c.next_is_operator.ensures c.args.text.now) ∙ c.if-not-next_is_operator.true)
+operations-returns-then-not-next_is_operator t c = sym c.loop.invariant
+    ∙ r.stops _ (operators (c.args.level + 1)) (step c.args.depth into (operation (c.args.level + 1) (at_level c.args.level))) _ c.loop.left _
+    (sym (c.next_is_operator.ensures c.args.text.now) ∙ c.if-not-next_is_operator.true)
 
 pub operations-returns-in_err-next : goal.operations-returns-in_err-next
 operations-returns-in_err-next t c =
     let p = err_from_is_err_and c.from_residual.result c.from_residual.ensures.1 in
-    rw (p.1, p.2) (r.fails _ (operators (c.args.level + 1)) (step c.args.depth into (operation (c.args.level + 1) (at_level c.args.level))) c.args.text.now c.in_err-next.field-0.0 _ c.loop.counter c.loop.left _ _ c.loop-test.true (sym (c.next_is_operator.ensures c.args.text.now) ∙ c.if-not-next_is_operator.false) c.in_err-next.ensures c.loop.invariant)
+    rw (p.1, p.2) (r.fails _ (operators (c.args.level + 1)) (step c.args.depth into (operation (c.args.level + 1) (at_level c.args.level))) c.args.text.now
+    c.in_err-next.field-0.0 _ c.loop.counter c.loop.left _ _ c.loop-test.true
+    (sym (c.next_is_operator.ensures c.args.text.now) ∙ c.if-not-next_is_operator.false) c.in_err-next.ensures c.loop.invariant)
 
 pub operations-loop-preserved : goal.operations-loop-preserved
-operations-loop-preserved t c = r.goes_on _ (operators (c.args.level + 1)) (step c.args.depth into (operation (c.args.level + 1) (at_level c.args.level))) _ c.loop.counter c.loop.left c.in_ok-next.next _ _ c.loop-test.true (sym (c.next_is_operator.ensures c.args.text.now) ∙ c.if-not-next_is_operator.false) c.in_ok-next.ensures ∙ c.loop.invariant
+operations-loop-preserved t c = r.goes_on _ (operators (c.args.level + 1)) (step c.args.depth into (operation (c.args.level + 1) (at_level c.args.level))) _
+    c.loop.counter c.loop.left c.in_ok-next.next _ _ c.loop-test.true (sym (c.next_is_operator.ensures c.args.text.now) ∙ c.if-not-next_is_operator.false)
+    c.in_ok-next.ensures ∙ c.loop.invariant
 
 pub operations-returns : goal.operations-returns
-operations-returns t c = sym c.loop.invariant ∙ r.is_done _ (operators (c.args.level + 1)) (step c.args.depth into (operation (c.args.level + 1) (at_level c.args.level))) _ c.loop.counter c.loop.left _ c.loop-test.false
+operations-returns t c = sym c.loop.invariant ∙ r.is_done _ (operators (c.args.level + 1))
+    (step c.args.depth into (operation (c.args.level + 1) (at_level c.args.level))) _ c.loop.counter c.loop.left _ c.loop-test.false

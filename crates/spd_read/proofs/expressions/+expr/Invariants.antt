@@ -65,4 +65,6 @@ abbrev pub decreases-place_text : goal.decreases-place_text
 decreases-place_text l = 64 * l.depth + 41
 
 abbrev pub invariant-operations-loop : goal.invariant-operations-loop
-invariant-operations-loop l = repeat (operators (l.level + 1)) (step l.depth into (operation (l.level + 1) (at_level l.level))) (l.limit - l.counter) l.left (all_seen l.text l.rest) ≡ loops l.depth (operators (l.level + 1)) into (operation (l.level + 1) (at_level l.level)) l.fn.first (all_seen l.text l.fn.tokens)
+invariant-operations-loop l = repeat (operators (l.level + 1)) (step l.depth into (operation (l.level + 1) (at_level l.level))) (l.limit - l.counter) l.left
+    (all_seen l.text l.rest) ≡ loops l.depth (operators (l.level + 1)) into (operation (l.level + 1) (at_level l.level)) l.fn.first
+    (all_seen l.text l.fn.tokens)

@@ -1,0 +1,10 @@
+pub mod Canonical
+pub mod Layout
+pub mod Lines
+pub mod Texts
+pub use Rattle.spd_syntax.specs.Tokens
+pub use Rattle.spd_syntax.specs.Symbols
+pub use Rattle.spd_syntax.specs.Shape
+pub use Rattle.spd_syntax.specs.Grammar
+pub use Rattle.spd_syntax.specs.Limits
+pub use Rattle.spd_syntax.specs.Faults
