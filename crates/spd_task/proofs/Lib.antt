@@ -1,17 +1,9 @@
 -- `Task`'s calls: what is left of a task is an evaluation. Splits: what is given is taken out of a promise. Events: each
 --   event by what the machine met. Tame: tame stays tame. Taken: parts that are taken inside.
--- `run_within`, gift and fault: `OutermostWillHave` says of each state what the outermost finish will have; what is
---   collected, joined with what the unended vertices promise, stays the same at each step (`DagOutcome`).
--- `run_within`, moves: `DagDraws`; a drawn move is one that was promised, and once no move is left both sides are the bound.
--- Snoc: the last of a list. Finishes: one finish, where its newest vertex changes. DagEvents: a vertex goes on, with
---   asyncs and finishes as vertices or inside. DagEnds: a vertex ends, a finish closes, and a turn is one of these.
+-- `PlainRegions`: a region gives what its body promises, and a task promises what its job gives.
 -- Sends: a task may go to another thread, layer by layer of its types.
 mod Splits
 mod Events
 mod Tame
 mod Taken
-mod Snoc
-mod Finishes
-mod DagEvents
-mod DagEnds
 pub mod Sends

@@ -5,12 +5,12 @@ ghost use Rattle.spd_words.specs.Total.{settle};
 ghost use Rattle.spd_check.specs.declared.code.CodeBlock.{CodeBlock};
 ghost use Rattle.spd_elide.specs.Jobs.{IsLawful, JobGives};
 ghost use Rattle.spd_task.specs.Task.{view_of};
-ghost use Rattle.spd_task.specs.Dag.{MayRun, promised_total};
+ghost use Rattle.spd_region.specs.Dag.{MayRun, promised_total};
 
-use crate::region::run_within;
 use crate::task::Task;
 use spd_check::Code;
 use spd_elide::{Job, Regions};
+use spd_region::run_within;
 use spd_words::{FinishKind, Given};
 use std::alloc::{AllocError, Global};
 

@@ -1,7 +1,7 @@
 // All ways to run a finish: each gives the same, in as many moves as its bound leaves it.
 
 ghost use Rattle.std.specs.Prelude.{◌<◌};
-ghost use Rattle.spd_task.specs.Dag.{MayRun};
+ghost use Rattle.spd_region.specs.Dag.{MayRun};
 ghost use Rattle.spd_task.specs.Task.{view_of};
 
 use crate::events::{Met, events_of};
@@ -9,7 +9,8 @@ use crate::finish_rows::{FINISH_ROWS, FinishRow};
 use crate::jobs::{code_of, first_job};
 use spd_check::Code;
 use spd_elide::{ElideRegions, Regions, elide_body};
-use spd_task::{PlainRegions, Region, Task, run_within};
+use spd_region::{Region, run_within};
+use spd_task::{PlainRegions, Task};
 use spd_words::{FinishKind, Given, NO_FAULT, Tally};
 use std::alloc::{AllocError, Global};
 use std::process::Abort;
