@@ -1,0 +1,6 @@
+pub mod Places
+pub mod Resolved
+pub mod Coded
+pub mod Alike
+pub mod Silent
+pub mod Lined

@@ -1,0 +1,9 @@
+pub mod Acts
+pub mod Eval
+pub mod Values
+pub mod Names
+pub mod Meaning
+pub mod Programs
+pub mod Blocks
+pub mod Jobs
+pub mod Standing
