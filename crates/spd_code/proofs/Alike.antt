@@ -9,7 +9,6 @@ use Rattle.spd_meaning.specs.Acts.{Acts, Async, Call, Finish, Begin, Over, Tick,
 use Rattle.spd_meaning.specs.Eval.{End, Fell, Back, Fault, Eval, Returned, quiet, before, go_on, then_do, counted, cut, cut_end, turns, end_codes, with_value, with_values, with_line, async_of, finish_of, finish_end, for_finish, collected, returned, value_back, call_of, call_end}
 use Rattle.spd_code.specs.Alike.{names_of, values_of, valued_end, valued, EndsWith, Alike}
 use Rattle.spd_code.proofs.Places.{taken, taken_names, as_many, cut_back}
-use Rattle.spd_meaning.specs.Meaning.{value}
 
 -- ---- sequence
 
@@ -42,9 +41,11 @@ cut_valued n (Fell env) = ap Fell (sym (taken n env))
 cut_valued n (Back v) = refl
 cut_valued n (Fault c) = refl
 
-pub alike_cut : (env : Env) (more : Names) (a : Eval Entry) (b : Eval ℤ) → Alike (names_of env ++ more) a b → Alike (names_of env) (cut (length env) a) (cut (length (values_of env)) b)
+pub alike_cut : (env : Env) (more : Names) (a : Eval Entry) (b : Eval ℤ) → Alike (names_of env ++ more) a b →
+    Alike (names_of env) (cut (length env) a) (cut (length (values_of env)) b)
 alike_cut env more a b h = record {
-  same = ap (λ n. cut n b) (as_many env) ∙ ap (cut (length env)) h.same ∙ ap (λ (e : End ℤ). record { end = e; given = a.given }) (cut_valued (length env) a.end);
+  same = ap (λ n. cut n b) (as_many env) ∙ ap (cut (length env)) h.same
+      ∙ ap (λ (e : End ℤ). record { end = e; given = a.given }) (cut_valued (length env) a.end);
   behind = cut_shows (length env) (names_of env) (names_of env ++ more) a.end (cut_back env more) h.behind;
 }
 
@@ -64,25 +65,34 @@ codes_valued (Fell env) = refl
 codes_valued (Back v) = refl
 codes_valued (Fault c) = refl
 
-pub alike_async : (names : Names) (env : Env) (a : Eval Entry) (b : Eval ℤ) → Alike names a b → Alike (names_of env) (async_of env a) (async_of (values_of env) b)
+pub alike_async : (names : Names) (env : Env) (a : Eval Entry) (b : Eval ℤ) → Alike names a b →
+    Alike (names_of env) (async_of env a) (async_of (values_of env) b)
 alike_async names env a b h = record {
-  same = ap (async_of (values_of env)) h.same ∙ ap (λ (cs : Acts). record { end = Fell (values_of env); given = Begin Async ∷ (a.given ++ (cs ++ Over ∷ [])) }) (codes_valued a.end);
+  same = ap (async_of (values_of env)) h.same
+      ∙ ap (λ (cs : Acts). record { end = Fell (values_of env); given = Begin Async ∷ (a.given ++ (cs ++ Over ∷ [])) }) (codes_valued a.end);
   behind = refl;
 }
 
-end_valued : (line : ℕ) (f : ℤ → Env) (g : ℤ → List ℤ) (total : Total) → ((v : ℤ) → values_of (f v) ≡ g v) → finish_end line g total ≡ valued_end (finish_end line f total)
-end_valued line f g total h = elim (total.fault == no_fault) as (λ t. (if t then Fell (g total.gift) else Fault (at_line line total.fault)) ≡ valued_end (if t then Fell (f total.gift) else Fault (at_line line total.fault)))
+end_valued : (line : ℕ) (f : ℤ → Env) (g : ℤ → List ℤ) (total : Total) → ((v : ℤ) → values_of (f v) ≡ g v) →
+    finish_end line g total ≡ valued_end (finish_end line f total)
+end_valued line f g total h = elim (total.fault == no_fault) as (λ t. (if t then Fell (g total.gift) else Fault (at_line line total.fault))
+    ≡ valued_end (if t then Fell (f total.gift) else Fault (at_line line total.fault)))
     [ true ↦ ap Fell (sym (h total.gift)) | false ↦ refl ]
 
 end_shows : (names : Names) (line : ℕ) (f : ℤ → Env) (total : Total) → ((v : ℤ) → names_of (f v) ≡ names) → EndsWith names (finish_end line f total)
-end_shows names line f total h = elim (total.fault == no_fault) as (λ t. EndsWith names (if t then Fell (f total.gift) else Fault (at_line line total.fault))) [ true ↦ h total.gift | false ↦ tt ]
+end_shows names line f total h = elim (total.fault == no_fault) as (λ t. EndsWith names (if t then Fell (f total.gift) else Fault (at_line line total.fault)))
+    [ true ↦ h total.gift | false ↦ tt ]
 
 pub alike_finish : (names : Names) (kind : FinishKind) (line : ℕ) (f : ℤ → Env) (g : ℤ → List ℤ) (a : Eval Entry) (b : Eval ℤ) →
     ((v : ℤ) → names_of (f v) ≡ names) → ((v : ℤ) → values_of (f v) ≡ g v) → b ≡ valued a → Alike names (finish_of kind line f a) (finish_of kind line g b)
 alike_finish names kind line f g a b n v e = record {
   same = ap (finish_of kind line g) e
-      ∙ ap (λ (cs : Acts). before (Begin Finish ∷ []) (record { end = finish_end line g (settle (collected kind (nothing kind) (a.given ++ cs))); given = passed a.given ++ Over ∷ [] })) (codes_valued a.end)
-      ∙ ap (λ (z : End ℤ). before (Begin Finish ∷ []) (record { end = z; given = passed a.given ++ Over ∷ [] })) (end_valued line f g (settle (collected kind (nothing kind) (for_finish a))) v);
+      ∙ ap (λ (cs : Acts). before (Begin Finish ∷ []) (record {
+        end = finish_end line g (settle (collected kind (nothing kind) (a.given ++ cs)));
+        given = passed a.given ++ Over ∷ [];
+      })) (codes_valued a.end)
+      ∙ ap (λ (z : End ℤ). before (Begin Finish ∷ []) (record { end = z; given = passed a.given ++ Over ∷ [] }))
+      (end_valued line f g (settle (collected kind (nothing kind) (for_finish a))) v);
   behind = end_shows names line f (settle (collected kind (nothing kind) (for_finish a))) n;
 }
 
@@ -94,7 +104,8 @@ call_shows : (names : Names) (f : ℤ → Env) (r : Result ℤ ℕ) → ((v : �
 call_shows names f (Ok v) h = h v
 call_shows names f (Err c) h = tt
 
-pub alike_call : (names : Names) (f : ℤ → Env) (g : ℤ → List ℤ) (r : Returned) → ((v : ℤ) → names_of (f v) ≡ names) → ((v : ℤ) → values_of (f v) ≡ g v) → Alike names (call_of f r) (call_of g r)
+pub alike_call : (names : Names) (f : ℤ → Env) (g : ℤ → List ℤ) (r : Returned) → ((v : ℤ) → names_of (f v) ≡ names) → ((v : ℤ) → values_of (f v) ≡ g v) →
+    Alike names (call_of f r) (call_of g r)
 alike_call names f g r n v = record {
   same = ap (λ (z : End ℤ). before (Begin Call ∷ []) (record { end = z; given = r.given ++ Over ∷ [] })) (call_valued f g r.value v);
   behind = call_shows names f r.value n;
@@ -110,14 +121,17 @@ alike_returned a b e = ap returned e ∙ ap (λ (r : Result ℤ ℕ). record { v
 
 -- ---- values
 
-pub alike_value : (names : Names) (r : Result ℤ ℕ) (f : ℤ → Eval Entry) (g : ℤ → Eval ℤ) → ((v : ℤ) → Alike names (f v) (g v)) → Alike names (with_value r f) (with_value r g)
+pub alike_value : (names : Names) (r : Result ℤ ℕ) (f : ℤ → Eval Entry) (g : ℤ → Eval ℤ) → ((v : ℤ) → Alike names (f v) (g v)) →
+    Alike names (with_value r f) (with_value r g)
 alike_value names (Ok v) f g h = h v
 alike_value names (Err c) f g h = record { same = refl; behind = tt }
 
-pub alike_values : (names : Names) (r : Result (List ℤ) ℕ) (f : List ℤ → Eval Entry) (g : List ℤ → Eval ℤ) → ((vs : List ℤ) → Alike names (f vs) (g vs)) → Alike names (with_values r f) (with_values r g)
+pub alike_values : (names : Names) (r : Result (List ℤ) ℕ) (f : List ℤ → Eval Entry) (g : List ℤ → Eval ℤ) → ((vs : List ℤ) → Alike names (f vs) (g vs)) →
+    Alike names (with_values r f) (with_values r g)
 alike_values names (Ok vs) f g h = h vs
 alike_values names (Err c) f g h = record { same = refl; behind = tt }
 
-pub alike_text : (names : Names) (r : Result (List ℕ) ℕ) (f : List ℕ → Eval Entry) (g : List ℕ → Eval ℤ) → ((t : List ℕ) → Alike names (f t) (g t)) → Alike names (with_line r f) (with_line r g)
+pub alike_text : (names : Names) (r : Result (List ℕ) ℕ) (f : List ℕ → Eval Entry) (g : List ℕ → Eval ℤ) → ((t : List ℕ) → Alike names (f t) (g t)) →
+    Alike names (with_line r f) (with_line r g)
 alike_text names (Ok t) f g h = h t
 alike_text names (Err c) f g h = record { same = refl; behind = tt }

@@ -19,17 +19,20 @@ use Rattle.spd_code.proofs.Alike.{alike_returned}
 use Rattle.spd_code.proofs.AlikeTrees.{alike_code}
 
 -- the code of what is found by a name stands at the place of the name
-found : (spaces : Spaces) (cs : List Callable) (items : List CodeItem) (name : Name) → AreItems spaces cs items → IsItem spaces (callable_named cs name) (item_at items (place_of (names_of_callables cs) name))
+found : (spaces : Spaces) (cs : List Callable) (items : List CodeItem) (name : Name) → AreItems spaces cs items →
+    IsItem spaces (callable_named cs name) (item_at items (place_of (names_of_callables cs) name))
 found spaces [] [] name a = record { next = 0; params = refl; body = refl }
 found spaces [] (item ∷ items) name a = absurd a
 found spaces (c ∷ cs) [] name a = absurd a
 found spaces (c ∷ cs) (item ∷ items) name a =
-    elim (bytes_eq c.name name) as (λ t. IsItem spaces (if t then c else callable_named cs name) (item_at (item ∷ items) (if t then 0 else suc (place_of (names_of_callables cs) name))))
+    elim (bytes_eq c.name name)
+    as (λ t. IsItem spaces (if t then c else callable_named cs name) (item_at (item ∷ items) (if t then 0 else suc (place_of (names_of_callables cs) name))))
     [ true ↦ a.0 | false ↦ found spaces cs items name a.1 ]
 
 -- ---- the code of a program is its code
 
-both_items : (spaces : Spaces) (cs ds : List Callable) (xs ys : List CodeItem) → AreItems spaces cs xs → AreItems spaces ds ys → AreItems spaces (cs ++ ds) (xs ++ ys)
+both_items : (spaces : Spaces) (cs ds : List Callable) (xs ys : List CodeItem) → AreItems spaces cs xs → AreItems spaces ds ys →
+    AreItems spaces (cs ++ ds) (xs ++ ys)
 both_items spaces [] ds [] ys a b = b
 both_items spaces [] ds (x ∷ xs) ys a b = absurd a
 both_items spaces (c ∷ cs) ds [] ys a b = absurd a
@@ -51,11 +54,14 @@ task_is spaces next (i.Function name params body) = tt
 task_is spaces next (i.Task name params body) = (record { next = next; params = refl; body = refl }, tt)
 task_is spaces next (i.Main body) = tt
 
-functions_are : (spaces : Spaces) (next : ℕ) (items : List Item) → AreItems spaces (flat_map (λ (item : Item). function_in item.what) items) (functions_code spaces next items)
+functions_are : (spaces : Spaces) (next : ℕ) (items : List Item) → AreItems spaces (flat_map (λ (item : Item). function_in item.what) items)
+    (functions_code spaces next items)
 functions_are spaces next [] = tt
-functions_are spaces next (item ∷ items) = both_items spaces _ _ _ _ (function_is spaces next item.what) (functions_are spaces (next + item_blocks spaces item.what) items)
+functions_are spaces next (item ∷ items) = both_items spaces _ _ _ _ (function_is spaces next item.what)
+    (functions_are spaces (next + item_blocks spaces item.what) items)
 
-tasks_are : (spaces : Spaces) (next : ℕ) (items : List Item) → AreItems spaces (flat_map (λ (item : Item). task_in item.what) items) (tasks_code spaces next items)
+tasks_are : (spaces : Spaces) (next : ℕ) (items : List Item) → AreItems spaces (flat_map (λ (item : Item). task_in item.what) items)
+    (tasks_code spaces next items)
 tasks_are spaces next [] = tt
 tasks_are spaces next (item ∷ items) = both_items spaces _ _ _ _ (task_is spaces next item.what) (tasks_are spaces (next + item_blocks spaces item.what) items)
 
@@ -67,7 +73,8 @@ coded items =
 -- ---- calls
 
 -- a call by name and one by number
-pub call_alike : (spaces : Spaces) (around : Around Name) (numbered : Around ℕ) → AroundAlike spaces around numbered → (c : Callable) (item : CodeItem) (args : List ℤ) → IsItem spaces c item →
+pub call_alike : (spaces : Spaces) (around : Around Name) (numbered : Around ℕ) → AroundAlike spaces around numbered →
+    (c : Callable) (item : CodeItem) (args : List ℤ) → IsItem spaces c item →
     item_returned numbered item args ≡ callable_returned around c args
 call_alike spaces around numbered h c item args is =
     let env = enter c.params args in
@@ -90,8 +97,10 @@ around_alike items context column k is (suc left) =
     let spaces = spaces_of items in
     record {
       column = k;
-      function = λ f args line. call_alike spaces (around_with cs column left) (around_of context left) h (callable_named cs.functions f) (item_at context.code.functions (place_of spaces.functions f)) args (found spaces cs.functions context.code.functions f is.functions);
-      task = λ t args line. call_alike spaces (around_with cs column left) (around_of context left) h (callable_named cs.tasks t) (item_at context.code.tasks (place_of spaces.tasks t)) args (found spaces cs.tasks context.code.tasks t is.tasks);
+      function = λ f args line. call_alike spaces (around_with cs column left) (around_of context left) h (callable_named cs.functions f)
+          (item_at context.code.functions (place_of spaces.functions f)) args (found spaces cs.functions context.code.functions f is.functions);
+      task = λ t args line. call_alike spaces (around_with cs column left) (around_of context left) h (callable_named cs.tasks t)
+          (item_at context.code.tasks (place_of spaces.tasks t)) args (found spaces cs.tasks context.code.tasks t is.tasks);
     }
 
 -- ---- main
@@ -102,4 +111,5 @@ pub main_alike : (items : List Item) (context : Context) (column : Name → Colu
 main_alike items context column k is =
     let spaces = spaces_of items in
     ap (λ (b : CodeBlock). eval_block (around_of context most_calls) b []) is.main
-    ∙ (alike_code spaces (around_with (callables_of items) column most_calls) (around_of context most_calls) (around_alike items context column k is most_calls) (main_of items) is.next []).same
+    ∙ (alike_code spaces (around_with (callables_of items) column most_calls) (around_of context most_calls)
+    (around_alike items context column k is most_calls) (main_of items) is.next []).same

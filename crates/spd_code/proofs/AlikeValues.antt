@@ -22,12 +22,17 @@ module _ (spaces : Spaces) (around : Around Name) (numbered : Around ℕ) (h : A
   Same e = (env : Env) (line : ℕ) → code_value numbered (expression_code spaces (names_of env) e) (values_of env) line ≡ value around e env line
 
   rolled : (z : Expr-F Expr) (env : Env) (line : ℕ) →
-      code_value_step numbered (C.map-CodeExpr CodeExpr CodeValue (code_value numbered) (expression_step spaces (names_of env) (E.map-Expr Expr CodeExpr (expression_code spaces (names_of env)) z))) (values_of env) line
+      code_value_step numbered
+      (C.map-CodeExpr CodeExpr CodeValue (code_value numbered)
+      (expression_step spaces (names_of env) (E.map-Expr Expr CodeExpr (expression_code spaces (names_of env)) z))) (values_of env) line
       ≡ value_step around (E.map-Expr Expr Value (value around) z) env line →
       code_value numbered (expression_code spaces (names_of env) (E.roll-Expr z)) (values_of env) line ≡ value around (E.roll-Expr z) env line
   rolled z env line q =
-      ap (λ (c : CodeExpr). code_value numbered c (values_of env) line) (E.fold-roll-Expr CodeExpr (λ layer. C.roll-CodeExpr (expression_step spaces (names_of env) layer)) z)
-      ∙ ap (λ (v : CodeValue). v (values_of env) line) (C.fold-roll-CodeExpr CodeValue (code_value_step numbered) (expression_step spaces (names_of env) (E.map-Expr Expr CodeExpr (expression_code spaces (names_of env)) z)))
+      ap (λ (c : CodeExpr). code_value numbered c (values_of env) line)
+      (E.fold-roll-Expr CodeExpr (λ layer. C.roll-CodeExpr (expression_step spaces (names_of env) layer)) z)
+      ∙ ap (λ (v : CodeValue). v (values_of env) line)
+      (C.fold-roll-CodeExpr CodeValue (code_value_step numbered)
+      (expression_step spaces (names_of env) (E.map-Expr Expr CodeExpr (expression_code spaces (names_of env)) z)))
       ∙ q
       ∙ ap (λ (v : Value). v env line) (sym (E.fold-roll-Expr Value (value_step around) z))
 
@@ -43,12 +48,14 @@ module _ (spaces : Spaces) (around : Around Name) (numbered : Around ℕ) (h : A
   With = (e : Expr) × Same e
 
   at_layer : (y : Expr-F With) (env : Env) (line : ℕ) →
-      code_value numbered (expression_code spaces (names_of env) (E.roll-Expr (E.map-Expr With Expr (λ e. e.0) y))) (values_of env) line ≡ value around (E.roll-Expr (E.map-Expr With Expr (λ e. e.0) y)) env line
+      code_value numbered (expression_code spaces (names_of env) (E.roll-Expr (E.map-Expr With Expr (λ e. e.0) y))) (values_of env) line
+      ≡ value around (E.roll-Expr (E.map-Expr With Expr (λ e. e.0) y)) env line
   at_layer (Expr-F.Number n) env line = rolled (Expr-F.Number n) env line refl
   at_layer (Expr-F.Var name) env line = rolled (Expr-F.Var name) env line (ap Ok (sym (looked env name)))
   at_layer (Expr-F.Unary op a) env line = rolled (Expr-F.Unary op a.0) env line (ap (λ r. with_operand r (λ v. apply_unary op v line)) (a.1 env line))
   at_layer (Expr-F.Binary op a b) env line = rolled (Expr-F.Binary op a.0 b.0) env line
-      (ap (λ r. operated op r (code_value numbered (expression_code spaces (names_of env) b.0) (values_of env) line) line) (a.1 env line) ∙ ap (λ r. operated op (value around a.0 env line) r line) (b.1 env line))
+      (ap (λ r. operated op r (code_value numbered (expression_code spaces (names_of env) b.0) (values_of env) line) line) (a.1 env line)
+      ∙ ap (λ r. operated op (value around a.0 env line) r line) (b.1 env line))
   at_layer (Expr-F.Len c) env line = rolled (Expr-F.Len c) env line (ap (λ (k : ColumnView). Ok k.length) (h.column c))
   at_layer (Expr-F.Index c a) env line = rolled (Expr-F.Index c a.0) env line (of_entry entry_number c a.0 env line (a.1 env line))
   at_layer (Expr-F.Size c a) env line = rolled (Expr-F.Size c a.0) env line (of_entry entry_size c a.0 env line (a.1 env line))
@@ -63,18 +70,23 @@ module _ (spaces : Spaces) (around : Around Name) (numbered : Around ℕ) (h : A
   pub same_value : (e : Expr) → Same e
   same_value = E.ind-Expr Same (λ x y e. subst (λ (z : Expr-F Expr). Same (E.roll-Expr z)) e (at_layer y))
 
-  pub same_values : (es : List Expr) (env : Env) (line : ℕ) → map (λ e. code_value numbered e (values_of env) line) (map (expression_code spaces (names_of env)) es) ≡ map (λ e. value around e env line) es
+  pub same_values : (es : List Expr) (env : Env) (line : ℕ) →
+      map (λ e. code_value numbered e (values_of env) line) (map (expression_code spaces (names_of env)) es) ≡ map (λ e. value around e env line) es
   same_values [] env line = refl
   same_values (e ∷ es) env line =
-      ap (λ (r : ValueOrFault). r ∷ map (λ e. code_value numbered e (values_of env) line) (map (expression_code spaces (names_of env)) es)) (same_value e env line)
+      ap (λ (r : ValueOrFault). r ∷ map (λ e. code_value numbered e (values_of env) line) (map (expression_code spaces (names_of env)) es))
+      (same_value e env line)
       ∙ ap (λ (rs : List ValueOrFault). value around e env line ∷ rs) (same_values es env line)
 
-  same_part : (p : PrintPart) (env : Env) (line : ℕ) → code_part_value numbered (part_code spaces (names_of env) p) (values_of env) line ≡ part_value around p env line
+  same_part : (p : PrintPart) (env : Env) (line : ℕ) → code_part_value numbered (part_code spaces (names_of env) p) (values_of env) line
+      ≡ part_value around p env line
   same_part (part.Lit text) env line = refl
   same_part (part.Value e) env line = ap decimal (same_value e env line)
 
-  pub same_parts : (ps : List PrintPart) (env : Env) (line : ℕ) → map (λ p. code_part_value numbered p (values_of env) line) (map (part_code spaces (names_of env)) ps) ≡ map (λ p. part_value around p env line) ps
+  pub same_parts : (ps : List PrintPart) (env : Env) (line : ℕ) →
+      map (λ p. code_part_value numbered p (values_of env) line) (map (part_code spaces (names_of env)) ps) ≡ map (λ p. part_value around p env line) ps
   same_parts [] env line = refl
   same_parts (p ∷ ps) env line =
-      ap (λ (r : Result (List ℕ) ℕ). r ∷ map (λ p. code_part_value numbered p (values_of env) line) (map (part_code spaces (names_of env)) ps)) (same_part p env line)
+      ap (λ (r : Result (List ℕ) ℕ). r ∷ map (λ p. code_part_value numbered p (values_of env) line) (map (part_code spaces (names_of env)) ps))
+      (same_part p env line)
       ∙ ap (λ (rs : List (Result (List ℕ) ℕ)). part_value around p env line ∷ rs) (same_parts ps env line)

@@ -1,11 +1,9 @@
 -- What a job has by places is what it has by names.
-use Rattle.std.proofs.Common.{◌≡◌, ℕ, zero, suc, List, [], ◌∷◌, ◌++◌, length, refl, sym, ◌∙◌, ap, arith, ℤ, pos}
+use Rattle.std.proofs.Common.{◌≡◌, ℕ, zero, suc, List, [], ◌∷◌, ◌++◌, length, refl, sym, ◌∙◌, ap, arith, ℤ}
 use Rattle.spd_syntax.specs.declared.tree.Item.{Item}
 use Rattle.spd_words.specs.Total.{nothing, settle}
 use Rattle.spd_words.specs.declared.finish_kind.FinishKind.{FinishKind}
 use Rattle.spd_words.specs.declared.finish_kind.FinishKind.TheVariants as kind
-use Rattle.spd_code.specs.declared.stmt.CodeBlock.{CodeBlock}
-use Rattle.spd_code.specs.declared.tree.CodeItem.{CodeItem}
 use Rattle.spd_meaning.specs.Acts.{Acts}
 use Rattle.spd_meaning.specs.Eval.{End, Fell, Back, Fault, Eval, Returned, collected, end_codes, back_offered, job_total}
 use Rattle.spd_meaning.specs.Values.{ColumnView}
@@ -17,7 +15,7 @@ use Rattle.spd_meaning.specs.Jobs.{block_result, call_result, total_back}
 use Rattle.spd_meaning.specs.Standing.{StandWell}
 use Rattle.spd_code.specs.Places.{fitted}
 use Rattle.spd_code.specs.Resolved.{spaces_of, code_of}
-use Rattle.spd_code.specs.Coded.{Context, around_of, eval_block, item_at, item_returned}
+use Rattle.spd_code.specs.Coded.{Context, around_of, eval_block, item_at}
 use Rattle.spd_code.specs.Alike.{names_of, values_of, valued, valued_end, IsItem, IsCode, AreColumns}
 use Rattle.spd_code.proofs.Places.{entered, entered_names}
 use Rattle.spd_code.proofs.AlikeTrees.{alike_code}
@@ -47,7 +45,8 @@ total_valued k a = ap (λ (cs : Acts). settle (collected k (nothing k) (a.given 
 -- a job that is a block of the program, with a value for each name that is visible there
 pub block_job : (items : List Item) (context : Context) (column : Name → ColumnView) → AreColumns items column context → IsCode items context.code →
     (left : ℕ) (k : FinishKind) (block : SourceBlock) (next : ℕ) (vars : List ℤ) → length vars ≡ length block.names →
-    job_total k (eval_block (around_of context left) (code_of (spaces_of items) block.names next block.stmts) vars) ≡ block_result items column left k block vars
+    job_total k (eval_block (around_of context left) (code_of (spaces_of items) block.names next block.stmts) vars)
+    ≡ block_result items column left k block vars
 block_job items context column c is left k block next vars n =
     let spaces = spaces_of items in
     let around = around_of context left in
@@ -61,9 +60,11 @@ block_job items context column c is left k block next vars n =
     ∙ total_valued k (block_meaning named block.stmts env)
 
 -- a job that is a call of a function, whose code stands at a number
-pub call_job : (items : List Item) (context : Context) (column : Name → ColumnView) → AreColumns items column context → IsCode items context.code → StandWell (callables_of items).functions →
+pub call_job : (items : List Item) (context : Context) (column : Name → ColumnView) → AreColumns items column context → IsCode items context.code →
+    StandWell (callables_of items).functions →
     (left : ℕ) (function : Callable) (number : ℕ) (args : List ℤ) → IsItem (spaces_of items) function (item_at context.code.functions number) →
-    job_total kind.Sum (back_offered (eval_block (around_of context left) (item_at context.code.functions number).body (fitted (item_at context.code.functions number).params args)))
+    job_total kind.Sum (back_offered (eval_block (around_of context left) (item_at context.code.functions number).body
+    (fitted (item_at context.code.functions number).params args)))
     ≡ call_result items column left function args
 call_job items context column c is w left function number args it =
     let spaces = spaces_of items in
@@ -71,4 +72,5 @@ call_job items context column c is w left function number args it =
     let a = eval_block (around_of context left) item.body (fitted item.params args) in
     let silent = functions_quiet spaces (callables_of items).functions context.code.functions is.functions w in
     call_total a (block_silent (around_of context left) (functions_silent context silent left) item.body (silent number) (fitted item.params args))
-    ∙ ap (λ (r : Returned). settle (total_back r.value)) (call_alike spaces (around_with (callables_of items) column left) (around_of context left) (around_alike items context column c is left) function item args it)
+    ∙ ap (λ (r : Returned). settle (total_back r.value)) (call_alike spaces (around_with (callables_of items) column left) (around_of context left)
+    (around_alike items context column c is left) function item args it)

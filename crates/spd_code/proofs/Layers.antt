@@ -1,5 +1,5 @@
 -- A block is the run of its statements, and each statement is a step of its kind.
-use Rattle.std.proofs.Common.{◌≡◌, ℕ, List, refl, ◌∙◌, ap, ℤ, pos, Ok, Some, []}
+use Rattle.std.proofs.Common.{◌≡◌, ℕ, List, ◌∙◌, ap, ℤ, pos, Ok, Some, []}
 use Rattle.std.specs.Prelude.{map}
 use Rattle.spd_code.specs.declared.stmt.CodeBlock.{CodeBlock, out-CodeBlock, fold_out-CodeBlock, roll-CodeBlock, fold-roll-CodeBlock}
 use Rattle.spd_code.specs.declared.stmt.CodeStmt.{CodeStmt, fold_out-CodeStmt, roll-CodeStmt, fold-roll-CodeStmt}
@@ -18,7 +18,8 @@ module _ (around : Around ℕ) where
   unfolding eval_kind eval_block eval_stmt
   rolled_kind z = fold-roll-CodeStmtKind CodeDeed CodeRun CodeRun (code_deed_step around) (code_block_step around) (code_run_step around) z
 
-  pub rolled_line : (z : code.CodeStmt-F CodeStmtKind CodeBlock CodeStmt) → eval_stmt around (roll-CodeStmt z) ≡ (λ vars. counted (eval_kind around z.what z.line vars))
+  pub rolled_line : (z : code.CodeStmt-F CodeStmtKind CodeBlock CodeStmt) → eval_stmt around (roll-CodeStmt z)
+      ≡ (λ vars. counted (eval_kind around z.what z.line vars))
   unfolding eval_kind eval_block eval_stmt
   rolled_line z = fold-roll-CodeStmt CodeDeed CodeRun CodeRun (code_deed_step around) (code_block_step around) (code_run_step around) z
 

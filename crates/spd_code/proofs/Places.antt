@@ -7,18 +7,19 @@ use Rattle.std.proofs.Math.Seq.{take-append_seam}
 use Rattle.spd_meaning.specs.Names.{Name, Names, Entry, Env, bind, look_up, assign, enter}
 use Rattle.spd_code.specs.Places.{place_of, value_at, put_at, fitted}
 use Rattle.spd_code.specs.Alike.{names_of, values_of}
-use Rattle.spd_meaning.specs.Meaning.{value}
 
 pub looked : (env : Env) (name : Name) → look_up env name ≡ value_at (values_of env) (place_of (names_of env) name)
 looked [] name = refl
 looked (entry ∷ env) name =
-    elim (bytes_eq entry.name name) as (λ t. (if t then entry.value else look_up env name) ≡ value_at (values_of (entry ∷ env)) (if t then 0 else suc (place_of (names_of env) name)))
+    elim (bytes_eq entry.name name) as (λ t. (if t then entry.value else look_up env name) ≡ value_at (values_of (entry ∷ env))
+    (if t then 0 else suc (place_of (names_of env) name)))
     [ true ↦ refl | false ↦ looked env name ]
 
 pub assigned : (env : Env) (name : Name) (v : ℤ) → values_of (assign env name v) ≡ put_at (values_of env) (place_of (names_of env) name) v
 assigned [] name v = refl
 assigned (entry ∷ env) name v =
-    elim (bytes_eq entry.name name) as (λ t. values_of (if t then record entry { value = v } ∷ env else entry ∷ assign env name v) ≡ put_at (values_of (entry ∷ env)) (if t then 0 else suc (place_of (names_of env) name)) v)
+    elim (bytes_eq entry.name name) as (λ t. values_of (if t then record entry { value = v } ∷ env else entry ∷ assign env name v)
+    ≡ put_at (values_of (entry ∷ env)) (if t then 0 else suc (place_of (names_of env) name)) v)
     [ true ↦ refl | false ↦ ap (λ (vs : List ℤ). entry.value ∷ vs) (assigned env name v) ]
 
 pub assigned_names : (env : Env) (name : Name) (v : ℤ) → names_of (assign env name v) ≡ names_of env
@@ -63,4 +64,5 @@ as_many env = length_map (λ (entry : Entry). entry.value) env
 
 -- what is left of names where those that came behind them are dropped
 pub cut_back : (env : Env) (more : Names) → take (length env) (names_of env ++ more) ≡ names_of env
-cut_back env more = subst (λ n. take n (names_of env ++ more) ≡ names_of env) (length_map (λ (entry : Entry). entry.name) env) (take-append_seam (names_of env) more)
+cut_back env more = subst (λ n. take n (names_of env ++ more) ≡ names_of env) (length_map (λ (entry : Entry). entry.name) env)
+    (take-append_seam (names_of env) more)

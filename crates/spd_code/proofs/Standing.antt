@@ -45,7 +45,8 @@ module _ (spaces : Spaces) where
   abbrev bare : List StmtWith → List Stmt
   bare ts = map (λ (t : StmtWith). t.0) ts
 
-  silent_rolled : (z : c.CodeStmtKind-F CodeStmtKind CodeBlock CodeStmt) → silent_kind (CK.roll-CodeStmtKind z) ≡ silent_step (CK.map-CodeStmtKind CodeStmtKind CodeBlock CodeStmt Bool Bool Bool silent_kind silent_block silent_stmt z)
+  silent_rolled : (z : c.CodeStmtKind-F CodeStmtKind CodeBlock CodeStmt) → silent_kind (CK.roll-CodeStmtKind z)
+      ≡ silent_step (CK.map-CodeStmtKind CodeStmtKind CodeBlock CodeStmt Bool Bool Bool silent_kind silent_block silent_stmt z)
   unfolding silent_kind silent_block silent_stmt
   silent_rolled z = CK.fold-roll-CodeStmtKind Bool Bool Bool silent_step silent_stmts silent_line z
 
@@ -60,8 +61,10 @@ module _ (spaces : Spaces) where
   abbrev layer : s.StmtKind-F StmtKind Stmt → s.StmtKind-F RK R
   layer z = K.map-StmtKind StmtKind Stmt RK R (kind_resolved spaces) (statement_resolved spaces) z
 
-  rolled : (z : s.StmtKind-F StmtKind Stmt) → (stands_step (K.map-StmtKind StmtKind Stmt Stands Stands kind_stands stmt_stands z) false ≡ true → (names : Names) (next : ℕ) →
-      silent_step (CK.map-CodeStmtKind CodeStmtKind CodeBlock CodeStmt Bool Bool Bool silent_kind silent_block silent_stmt (kind_code spaces (layer z) names next)) ≡ true) → KindHolds (K.roll-StmtKind z)
+  rolled : (z : s.StmtKind-F StmtKind Stmt) → (stands_step (K.map-StmtKind StmtKind Stmt Stands Stands kind_stands stmt_stands z) false ≡ true →
+      (names : Names) (next : ℕ) →
+      silent_step (CK.map-CodeStmtKind CodeStmtKind CodeBlock CodeStmt Bool Bool Bool silent_kind silent_block silent_stmt
+      (kind_code spaces (layer z) names next)) ≡ true) → KindHolds (K.roll-StmtKind z)
   unfolding kind_stands stmt_stands
   rolled z q e names next =
       ap (λ (r : RK). silent_kind (r.code names next)) (K.fold-roll-StmtKind RK R (resolve_kind spaces) (resolve_line spaces) z)
@@ -69,16 +72,21 @@ module _ (spaces : Spaces) where
       ∙ q (ap (λ (p : Stands). p false) (sym (K.fold-roll-StmtKind Stands Stands stands_step stands_line z)) ∙ e) names next
 
   -- the statements of a block
-  all_silent : (ts : List StmtWith) → all_stand (map stmt_stands (bare ts)) false ≡ true → (names : Names) (next : ℕ) → all_true (map silent_stmt (statements_code (map (statement_resolved spaces) (bare ts)) names next)) ≡ true
+  all_silent : (ts : List StmtWith) → all_stand (map stmt_stands (bare ts)) false ≡ true → (names : Names) (next : ℕ) →
+      all_true (map silent_stmt (statements_code (map (statement_resolved spaces) (bare ts)) names next)) ≡ true
   all_silent [] e names next = refl
   all_silent (t ∷ ts) e names next =
       let n = true_both (stmt_stands t.0 false) (all_stand (map stmt_stands (bare ts)) false) e in
       both_true _ _ (t.1 n.0 names next) (all_silent ts n.1 (names ++ (statement_resolved spaces t.0).binds) (next + (statement_resolved spaces t.0).blocks))
 
-  block_quiet : (ts : List StmtWith) → all_stand (map stmt_stands (bare ts)) false ≡ true → (names : Names) (next : ℕ) → silent_block (block_code (map (statement_resolved spaces) (bare ts)) names next) ≡ true
-  block_quiet ts e names next = silent_rolled_block (record { number = Some next; stmts = statements_code (map (statement_resolved spaces) (bare ts)) names (suc next) }) ∙ all_silent ts e names (suc next)
+  block_quiet : (ts : List StmtWith) → all_stand (map stmt_stands (bare ts)) false ≡ true → (names : Names) (next : ℕ) →
+      silent_block (block_code (map (statement_resolved spaces) (bare ts)) names next) ≡ true
+  block_quiet ts e names next =
+      silent_rolled_block (record { number = Some next; stmts = statements_code (map (statement_resolved spaces) (bare ts)) names (suc next) })
+      ∙ all_silent ts e names (suc next)
 
-  else_quiet : (ts : List StmtWith) → all_stand (map stmt_stands (bare ts)) false ≡ true → (names : Names) (next : ℕ) → silent_block (else_code (map (statement_resolved spaces) (bare ts)) names next) ≡ true
+  else_quiet : (ts : List StmtWith) → all_stand (map stmt_stands (bare ts)) false ≡ true → (names : Names) (next : ℕ) →
+      silent_block (else_code (map (statement_resolved spaces) (bare ts)) names next) ≡ true
   else_quiet [] e names next = silent_rolled_block (record { number = None; stmts = [] })
   else_quiet (t ∷ ts) e names next = block_quiet (t ∷ ts) e names next
 
@@ -87,7 +95,8 @@ module _ (spaces : Spaces) where
   at_layer (s.Assign name e) = rolled (s.Assign name e) (λ q names next. refl)
   at_layer (s.If e first second) = rolled (s.If e (bare first) (bare second)) (λ q names next.
       let n = true_both (all_stand (map stmt_stands (bare first)) false) (all_stand (map stmt_stands (bare second)) false) q in
-      both_true _ _ (block_quiet first n.0 names next) (else_quiet second n.1 names (next + suc (blocks_within (map (statement_resolved spaces) (bare first))))))
+      both_true _ _ (block_quiet first n.0 names next)
+      (else_quiet second n.1 names (next + suc (blocks_within (map (statement_resolved spaces) (bare first))))))
   at_layer (s.For name from to body) = rolled (s.For name from to (bare body)) (λ q names next. block_quiet body q (names ++ name ∷ []) next)
   at_layer (s.LetCall name callee args) = rolled (s.LetCall name callee args) (λ q names next. refl)
   at_layer (s.Run callee args) = rolled (s.Run callee args) (λ q names next. absurd (cc))
@@ -98,7 +107,8 @@ module _ (spaces : Spaces) where
   at_layer (s.Return e) = rolled (s.Return e) (λ q names next. refl)
   at_layer (s.Print ps) = rolled (s.Print ps) (λ q names next. absurd (cc))
 
-  at_kinds : (x : s.StmtKind-F StmtKind Stmt) (y : s.StmtKind-F KindWith StmtWith) → K.map-StmtKind KindWith StmtWith StmtKind Stmt (λ k. k.0) (λ t. t.0) y ≡ x → KindHolds (K.roll-StmtKind x)
+  at_kinds : (x : s.StmtKind-F StmtKind Stmt) (y : s.StmtKind-F KindWith StmtWith) → K.map-StmtKind KindWith StmtWith StmtKind Stmt (λ k. k.0) (λ t. t.0) y
+      ≡ x → KindHolds (K.roll-StmtKind x)
   at_kinds x y e = subst (λ (z : s.StmtKind-F StmtKind Stmt). KindHolds (K.roll-StmtKind z)) e (at_layer y)
 
   at_line : (z : s.Stmt-F StmtKind Stmt) → KindHolds z.what → StmtHolds (S.roll-Stmt z)
@@ -108,7 +118,8 @@ module _ (spaces : Spaces) where
       ∙ silent_rolled_line (record { line = z.line; next_block = next; what = (kind_resolved spaces z.what).code names next })
       ∙ k (ap (λ (p : Stands). p false) (sym (S.fold-roll-Stmt Stands Stands stands_step stands_line z)) ∙ e) names next
 
-  at_stmts : (x : s.Stmt-F StmtKind Stmt) (y : s.Stmt-F KindWith StmtWith) → S.map-Stmt KindWith StmtWith StmtKind Stmt (λ k. k.0) (λ t. t.0) y ≡ x → StmtHolds (S.roll-Stmt x)
+  at_stmts : (x : s.Stmt-F StmtKind Stmt) (y : s.Stmt-F KindWith StmtWith) → S.map-Stmt KindWith StmtWith StmtKind Stmt (λ k. k.0) (λ t. t.0) y ≡ x →
+      StmtHolds (S.roll-Stmt x)
   at_stmts x y e = subst (λ (z : s.Stmt-F StmtKind Stmt). StmtHolds (S.roll-Stmt z)) e (at_line (record { line = y.line; what = y.what.0 }) y.what.1)
 
   stmt_quiet : (t : Stmt) → StmtHolds t
@@ -128,7 +139,8 @@ module _ (spaces : Spaces) where
   nothing_silent = silent_rolled_block (record { number = Some 0; stmts = [] })
 
   -- Each function of a code is silent, whose statements stand well.
-  pub functions_quiet : (cs : List Callable) (items : List CodeItem) → AreItems spaces cs items → StandWell cs → (f : ℕ) → silent_block (item_at items f).body ≡ true
+  pub functions_quiet : (cs : List Callable) (items : List CodeItem) → AreItems spaces cs items → StandWell cs → (f : ℕ) → silent_block (item_at items f).body
+      ≡ true
   functions_quiet [] [] a w f = nothing_silent
   functions_quiet [] (i ∷ is) a w f = absurd a
   functions_quiet (d ∷ ds) [] a w f = absurd a

@@ -4,3 +4,4 @@ pub mod Coded
 pub mod Alike
 pub mod Silent
 pub mod Lined
+pub mod CodeBlocks

@@ -4,7 +4,9 @@
 mod elide;
 mod job;
 mod machine;
+mod regions;
 
 pub use elide::elide_body;
 pub use job::{Job, JobBody, level_of_job};
 pub use machine::{Inside, Machine, Met, with_end};
+pub use regions::{ElideRegions, Regions};

@@ -1,5 +1,5 @@
 -- Pieces are nested in what is given, so each that main meets is one job.
-use Rattle.std.proofs.Common.{◌≡◌, ℕ, zero, suc, ◌+◌, List, [], ◌∷◌, ◌++◌, refl, sym, ◌∙◌, ap, subst, arith, append_assoc, ℤ, Result, Ok, Err, length}
+use Rattle.std.proofs.Common.{◌≡◌, ℕ, zero, suc, ◌+◌, List, [], ◌∷◌, ◌++◌, refl, ◌∙◌, ap, subst, arith, append_assoc, ℤ, Result, Ok, Err, length}
 use Rattle.spd_words.specs.declared.finish_kind.FinishKind.{FinishKind}
 use Rattle.spd_meaning.specs.Acts.{Acts, Offer, Code, Line, Begin, Over, Tick, Piece, Async, Finish, Call, piece_moves, passed, moves_of, jobs_from, jobs_of}
 use Rattle.spd_meaning.specs.Eval.{End, Fell, Back, Fault, Eval, Returned, go_on, then_do, counted, with_value, with_values, with_line, cut, turns, end_codes, async_of, finish_of, call_of}
@@ -27,7 +27,8 @@ unfolding Nested moves_of jobs_from
 nested_piece piece g h d m rest =
     ap (jobs_from (suc (suc d)) (m + piece_moves piece)) (append_assoc g (Over ∷ []) rest)
     ∙ h (suc d) (m + piece_moves piece) (Over ∷ rest)
-    ∙ same_moves (suc d) ((m + piece_moves piece) + moves_of g) (m + (piece_moves piece + moves_of (g ++ Over ∷ []))) rest (let e = moves_both g (Over ∷ []) in omega arith)
+    ∙ same_moves (suc d) ((m + piece_moves piece) + moves_of g) (m + (piece_moves piece + moves_of (g ++ Over ∷ []))) rest
+    (let e = moves_both g (Over ∷ []) in omega arith)
 
 passed_jobs : (g : Acts) (d m : ℕ) (rest : Acts) → jobs_from d m (passed g ++ rest) ≡ jobs_from d m (g ++ rest)
 unfolding jobs_from
@@ -48,7 +49,8 @@ passed_jobs (Over ∷ g) (suc (suc d)) m rest = passed_jobs g (suc d) m rest
 
 pub nested_passed : (g : Acts) → Nested g → Nested (passed g)
 unfolding Nested
-nested_passed g h d m rest = passed_jobs g (suc d) m rest ∙ h d m rest ∙ same_moves (suc d) (m + moves_of g) (m + moves_of (passed g)) rest (let e = passed_moves g in omega arith)
+nested_passed g h d m rest = passed_jobs g (suc d) m rest ∙ h d m rest ∙ same_moves (suc d) (m + moves_of g) (m + moves_of (passed g)) rest
+    (let e = passed_moves g in omega arith)
 
 -- ---- evaluations that nest
 
@@ -91,9 +93,11 @@ pub nests_text : (r : Result (List ℕ) ℕ) (f : List ℕ → Eval ℤ) → ((t
 nests_text (Ok t) f h = h t
 nests_text (Err c) f h = nested_none
 
-pub nests_turns : (n : ℕ) (at : ℤ) (body : ℤ → List ℤ → Eval ℤ) → ((at : ℤ) (vars : List ℤ) → Nests (body at vars)) → (vars : List ℤ) → Nests (turns n at body vars)
+pub nests_turns : (n : ℕ) (at : ℤ) (body : ℤ → List ℤ → Eval ℤ) → ((at : ℤ) (vars : List ℤ) → Nests (body at vars)) → (vars : List ℤ) →
+    Nests (turns n at body vars)
 nests_turns zero at body h vars = nested_none
-nests_turns (suc n) at body h vars = nests_then (counted (cut (length vars) (body at vars))) (turns n _ body) (nested_tick _ (h at vars)) (nests_turns n _ body h)
+nests_turns (suc n) at body h vars = nests_then (counted (cut (length vars) (body at vars))) (turns n _ body) (nested_tick _ (h at vars))
+    (nests_turns n _ body h)
 
 pub nested_codes : (e : End ℤ) → Nested (end_codes e)
 nested_codes (Fell vars) = nested_none
@@ -101,7 +105,8 @@ nested_codes (Back v) = nested_none
 nested_codes (Fault c) = nested_code c
 
 pub nests_async : (vars : List ℤ) (a : Eval ℤ) → Nests a → Nests (async_of vars a)
-nests_async vars a h = subst (λ (g : Acts). Nested (Begin Async ∷ g)) (append_assoc a.given (end_codes a.end) (Over ∷ [])) (nested_piece Async (a.given ++ end_codes a.end) (nested_both a.given (end_codes a.end) h (nested_codes a.end)))
+nests_async vars a h = subst (λ (g : Acts). Nested (Begin Async ∷ g)) (append_assoc a.given (end_codes a.end) (Over ∷ []))
+    (nested_piece Async (a.given ++ end_codes a.end) (nested_both a.given (end_codes a.end) h (nested_codes a.end)))
 
 pub nests_finish : (kind : FinishKind) (line : ℕ) (b : ℤ → List ℤ) (a : Eval ℤ) → Nests a → Nests (finish_of kind line b a)
 nests_finish kind line b a h = nested_piece Finish (passed a.given) (nested_passed a.given h)

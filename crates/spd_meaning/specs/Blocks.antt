@@ -1,5 +1,5 @@
 -- The blocks of a program, in the order of the opening braces of its canonical text: their numbers are their places in this list.
-use Rattle.std.specs.Prelude.{ℕ, Bool, true, false, List, [], ◌∷◌, ◌++◌, map}
+use Rattle.std.specs.Prelude.{Bool, true, false, List, [], ◌∷◌, ◌++◌, map}
 use Rattle.std.specs.List.{flat_map}
 use Rattle.spd_syntax.specs.declared.tree.StmtKind.{StmtKind, fold-StmtKind, roll-StmtKind, map-StmtKind}
 use Rattle.spd_syntax.specs.declared.tree.StmtKind.TheOpen as s

@@ -1,9 +1,0 @@
-//! Tasks: jobs that are cut into events, and what runs them as regions on one thread.
-#![tactic(auto)]
-
-mod body;
-mod plain_regions;
-mod task;
-
-pub use plain_regions::PlainRegions;
-pub use task::Task;
