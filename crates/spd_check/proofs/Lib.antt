@@ -1,7 +1,12 @@
--- `check`, code and faults: `Answers` over the folds of `specs/Checks` and `specs/Resolved`. Equations: what both say of
---   each kind of statement. Passing: of several faults the first is told, and the names that a statement binds.
--- `Code::block`: `IsBlock`. Numbering: blocks are numbered by their opening braces, so a number has one block, and the
---   first number behind each statement tells where to look.
-pub mod Equations
+-- `check`: `Answers` over `faults_of`, one list of all faults in the order of the text. Passing: of several faults the first
+--   is told. Equations: what the list says of each kind of statement. LastStatements: a block returns by its last one.
+-- `Code::tree`: `program_code` of spd_code. CodeEquations: what the code of each kind of statement is, and the names that
+--   it binds. OneMain: without faults there is one main. Meanings: main by places is main by names (`MeansItself`).
+--   Placing: where nothing stands wrong, functions say nothing to a finish around their calls (`AreSilent`).
 pub mod Passing
-pub mod Numbering
+pub mod Equations
+pub mod LastStatements
+pub mod CodeEquations
+pub mod OneMain
+pub mod Meanings
+pub mod Placing

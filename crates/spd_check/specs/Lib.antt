@@ -1,5 +1,7 @@
 pub mod Names
+pub mod Items
+pub mod Places
+pub mod Faults
 pub mod Checks
-pub mod Resolved
-pub mod Blocks
-pub mod Finding
+pub mod Coding
+pub mod Checked

@@ -1,19 +1,19 @@
 //! The checks of a program, and its code: the tree with each name as a number.
 #![tactic(auto)]
 
-mod blocks;
-mod checks;
-mod code;
+mod coding;
+mod declared;
+mod expressions;
 mod faults;
-mod find;
+mod items;
 mod names;
+mod place;
 mod program;
+mod returning;
+mod spaces;
+mod statements;
+mod tree;
+mod values;
 
-pub use code::{
-    CodeBlock, CodeExpr, CodeOp, CodeParts, CodePrintPart, CodeStmt, CodeStmtKind, CodeStmts,
-};
-pub use faults::{CheckFault, CheckKind};
 pub use program::{Code, check};
-
-#[cfg(test)]
-mod tests;
+pub use faults::{CheckFault, CheckKind};

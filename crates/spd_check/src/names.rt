@@ -1,56 +1,97 @@
 // The names that are visible at a place.
 
-ghost use Rattle.std.specs.Prelude.{◌≡◌, ◌++◌, ◌∷◌, [], length, if◌then◌else◌, Some, None, MatchResult, OnOk};
-ghost use Rattle.spd_check.specs.declared.faults.CheckKind.TheVariants.{NoMemory};
-ghost use Rattle.spd_check.specs.Names.{is_visible, place_of, name_texts};
-ghost use Rattle.spd_check.specs.Checks.{Answers, twice};
+ghost use Rattle.std.specs.Prelude.{◌≡◌, ◌++◌, ◌∷◌, [], take, IfOk, OnOk};
+ghost use Rattle.spd_check.specs.declared.faults.CheckKind.TheVariants.{Unknown};
+ghost use Rattle.spd_code.specs.Places as places;
+ghost use Rattle.spd_check.specs.Names as spec;
+ghost use Rattle.spd_check.specs.Names.{name_texts};
+ghost use Rattle.spd_check.specs.Faults.{Passes, fault_unless};
+ghost use Rattle.spd_check.specs.Checks.{twice, assigned_faults};
 
-use crate::faults::{CheckFault, CheckKind};
+use crate::faults::{CheckFault, CheckKind, unless};
+use std::alloc::AllocError;
 
-/// The place of a name among those that are visible.
-pub(crate) fn find(names: &[&[u8]], name: &[u8]) -> Option<usize>
-    ensures { result ≡ (if is_visible (name_texts names.now) name.now then Some
-        (place_of (name_texts names.now) name.now)
-        else None) }
+/// A name is among those that are visible.
+fn is_visible(names: &[&[u8]], name: &[u8]) -> bool
+    ensures { result ≡ spec.is_visible (name_texts names.now) name.now }
+{
+    for other in names {
+        if *other == name {
+            return true;
+        }
+    }
+    false
+}
+
+/// The place of a name among those that are visible, or their number where it isn't.
+pub(crate) fn place_of(names: &[&[u8]], name: &[u8]) -> usize
+    ensures { result ≡ places.place_of (name_texts names.now) name.now }
 {
     for (place, other) in names.iter().enumerate() {
         if *other == name {
-            return Some(place);
+            return place;
         }
     }
-    None
+    names.len()
 }
 
-/// A place of a name, or a number of a block, as code has it. One that doesn't fit is `NoMemory`.
-pub(crate) fn to_u32(place: usize) -> Result<u32, CheckFault>
-    ensures { MatchResult result (λ n. n ≡ place) (λ fault. fault.kind ≡ NoMemory) }
+/// Checks a variable that is read.
+pub(crate) fn check_read(names: &[&[u8]], line: u32, name: &[u8]) -> Result<(), CheckFault>
+    ensures { Passes result (fault_unless (spec.is_visible (name_texts names.now) name.now) line Unknown) }
 {
-    if place > u32::MAX as usize {
+    unless(is_visible(names, name), line, CheckKind::Unknown)
+}
+
+/// Checks a variable that is assigned where so many names stood outside the innermost finish or async block.
+pub(crate) fn check_assigned(
+    names: &[&[u8]],
+    outer: usize,
+    line: u32,
+    name: &[u8],
+) -> Result<(), CheckFault>
+    ensures { Passes result (assigned_faults (name_texts names.now) outer name.now line) }
+{
+    if !is_visible(names, name) {
         return Err(CheckFault {
-            line: 0,
-            kind: CheckKind::NoMemory,
+            line,
+            kind: CheckKind::Unknown,
         });
     }
-    Ok(place as u32)
+    unless(outer <= place_of(names, name), line, CheckKind::AssignOuter)
 }
 
-/// Makes a name visible, and gives its place.
+/// Makes a name visible.
 pub(crate) fn bind<'a>(
     names: &mut Vec<&'a [u8]>,
     name: &'a [u8],
     line: u32,
-) -> Result<u32, CheckFault>
-    ensures answer { Answers result (twice (name_texts names.old.items) name.now line)
-        (length (name_texts names.old.items)) }
+) -> Result<(), CheckFault>
+    ensures answer { Passes result (twice (name_texts names.old.items) name.now line) }
     ensures names { OnOk result (name_texts names.new.items ≡ name_texts names.old.items ++ name.now ∷ []) }
 {
-    if find(names, name).is_some() {
+    if is_visible(names, name) {
         return Err(CheckFault {
             line,
             kind: CheckKind::Twice,
         });
     }
-    let place = to_u32(names.len())?;
     names.push(name)?;
-    Ok(place)
+    Ok(())
+}
+
+/// Keeps the first names alone, of which there are so many.
+pub(crate) fn keep_first(names: &mut Vec<&[u8]>, count: usize)
+    ensures { name_texts names.new.items ≡ take count (name_texts names.old.items) }
+{
+    names.truncate(count);
+}
+
+/// A place or a number as code has it. One beyond 32 bits is told as want of memory.
+pub(crate) fn to_u32(number: usize) -> Result<u32, AllocError>
+    ensures { IfOk result (λ small. small ≡ number) }
+{
+    if number > u32::MAX as usize {
+        return Err(AllocError);
+    }
+    Ok(number as u32)
 }

@@ -7,3 +7,4 @@ pub mod Programs
 pub mod Blocks
 pub mod Jobs
 pub mod Standing
+pub mod Printed

@@ -19,7 +19,7 @@ use Rattle.spd_words.specs.declared.tally.Tally.{Tally}
 use Rattle.spd_script.specs.Sums.{promise_of_sum, StandsBefore}
 use Rattle.spd_script.specs.Scripts.{with_moves, script_view, fresh_script, state_awaits, state_stage, state_promise, state_size, state_behind}
 use Rattle.spd_script.specs.Scripts.{IsFresh, ScriptAwaits, FitsScript, ScriptEvent, ScriptTakesAsync, ScriptTakesFinish}
-use Rattle.spd_task.specs.Dag.{MayRun}
+use Rattle.spd_region.specs.Dag.{MayRun}
 use Rattle.spd_script.proofs.Promises.{same_promise, with_code_is, promise_lawful, behind_lawful, moves_weigh}
 
 -- a script that may go on

@@ -3,7 +3,7 @@
 ghost use Rattle.std.specs.Prelude.{◌≡◌, ◌≢◌, ◌≤◌, ◌+◌, ◌*◌, IsSome, IfOk, OnErr, None};
 ghost use Rattle.spd_words.specs.Meaning.{Going, Ended};
 ghost use Rattle.spd_words.specs.declared.event.Part.TheVariants as of_part;
-ghost use Rattle.spd_task.specs.Dag.{MayRun};
+ghost use Rattle.spd_region.specs.Dag.{MayRun};
 ghost use Rattle.spd_script.specs.Steps.{promise};
 ghost use Rattle.spd_script.specs.Sums.{promise_of_sum};
 ghost use Rattle.spd_script.specs.Scripts.{script_view, with_moves, fresh_script, state_behind};

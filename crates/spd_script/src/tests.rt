@@ -3,7 +3,7 @@
 ghost use Rattle.std.specs.Prelude.{◌<◌};
 
 use crate::{Script, steps_of};
-use spd_task::{Region, run_within};
+use spd_region::{Region, run_within};
 use spd_words::{Body, Event, FinishKind, Given, NO_FAULT};
 use std::alloc::{AllocError, Global};
 use std::test::Fail;

@@ -1,17 +1,12 @@
--- `Task`'s calls: what is left of a task is an evaluation. Splits: what is given is taken out of a promise. Events: each
---   event by what the machine met. Tame: tame stays tame. Taken: parts that are taken inside.
--- `run_within`, gift and fault: `OutermostWillHave` says of each state what the outermost finish will have; what is
---   collected, joined with what the unended vertices promise, stays the same at each step (`DagOutcome`).
--- `run_within`, moves: `DagDraws`; a drawn move is one that was promised, and once no move is left both sides are the bound.
--- Snoc: the last of a list. Finishes: one finish, where its newest vertex changes. DagEvents: a vertex goes on, with
---   asyncs and finishes as vertices or inside. DagEnds: a vertex ends, a finish closes, and a turn is one of these.
+-- `Task`'s calls: what is left of a task is an evaluation (`left_of`), and each event is the next thing that is heard of
+--   it (`IsNext`). The one idea: a promise is a function of what is heard, so that every split is an equation of lists.
+-- Splits: what is heard is split off a promise. Events: each thing that a machine meets, as an event (`TaskGave`).
+-- Views: `TaskGave` as the trait's clauses; tame stays tame, since no code of an evaluation is 0 at any depth.
+-- Taken: parts that are taken inside: an async whose frames stand upon the task's, and a finish whose level is handed over.
+-- `PlainRegions`: a region gives what its body promises, and a task promises what its job gives.
 -- Sends: a task may go to another thread, layer by layer of its types.
 mod Splits
 mod Events
-mod Tame
+mod Views
 mod Taken
-mod Snoc
-mod Finishes
-mod DagEvents
-mod DagEnds
 pub mod Sends

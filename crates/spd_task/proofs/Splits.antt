@@ -1,55 +1,89 @@
--- What is given is taken out of a promise.
-use Rattle.std.proofs.Common.{◌≡◌, ℕ, ◌+◌, List, [], ◌∷◌, ◌++◌, refl, sym, ◌∙◌, ap, arith, ℤ, min}
-use Rattle.spd_words.specs.Gift.{no_fault, identity, join, gift, least}
-use Rattle.spd_words.specs.Meaning.{Promise}
-use Rattle.spd_words.proofs.Joins.{gift-cons, gift-append, gift_is, least-append, least_le}
+-- What is heard is split off a promise.
+use Rattle.std.proofs.Common.{◌≡◌, ℕ, ◌+◌, [], ◌∷◌, ◌++◌, refl, ◌∙◌, ap, arith, ℤ}
+use Rattle.std.specs.Prelude.{min}
+use Rattle.spd_words.specs.Gift.{join, gift, least, no_fault}
+use Rattle.spd_words.specs.Meaning.{Promise, add, empty}
 use Rattle.spd_words.specs.declared.finish_kind.FinishKind.{FinishKind}
-use Rattle.spd_check.specs.declared.code.CodeBlock.{CodeBlock}
-use Rattle.spd_elide.specs.Eval.{CallMeaning, End, Fell, Back, Fault, Eval, eval_block, async_of, end_codes, end_code, fault_of, job_result}
-use Rattle.spd_elide.specs.Leaves.{Leaves, giving}
-use Rattle.spd_task.specs.Task.{result_of}
+use Rattle.spd_words.proofs.Joins.{gift-cons, gift_is, least_le}
+use Rattle.spd_meaning.specs.Acts.{Acts, Piece, Offer, Code, Begin, Async, Finish, passed, offers_of, codes_of, moves_of}
+use Rattle.spd_meaning.specs.Eval.{promised_by}
+use Rattle.spd_meaning.proofs.Hearing.{passed_offers, passed_codes, passed_moves}
+use Rattle.spd_meaning.proofs.Collecting.{promise_both}
 
-abbrev pub promise : ℤ → ℕ → ℕ → Promise
-promise g f m = record { gift = g; fault = f; moves = m }
+pub promise_none : (kind : FinishKind) → promised_by kind [] ≡ empty kind
+unfolding moves_of
+promise_none kind = refl
 
-pub promises : (g g' : ℤ) (f f' m m' : ℕ) → g ≡ g' → f ≡ f' → m ≡ m' → promise g f m ≡ promise g' f' m'
-promises g g' f f' m m' a b c = rw (a, b, c) refl
+pub promise_offer : (kind : FinishKind) (x : ℤ) (q : Acts) →
+    promised_by kind (Offer x ∷ q) ≡ record {
+      gift = join kind x (promised_by kind q).gift;
+      fault = (promised_by kind q).fault;
+      moves = (promised_by kind q).moves;
+    }
+unfolding moves_of
+promise_offer kind x q =
+    let m : 0 + moves_of q ≡ moves_of q = omega arith in
+    ap (λ g. record { gift = g; fault = min no_fault (least (codes_of q)); moves = 0 + moves_of q }) (gift-cons kind x (offers_of q))
+    ∙ ap (λ n. record { gift = join kind x (gift kind (offers_of q)); fault = min no_fault (least (codes_of q)); moves = n }) m
 
-pub offer_splits : (kind : FinishKind) (x : ℤ) (w : ℕ) (a b : Eval) → Leaves (giving (x ∷ []) [] 0 w) a b →
-    result_of kind a ≡ promise (join kind x (gift kind b.offers)) (least b.codes) b.moves
-offer_splits kind x w a b h =
-    promises _ _ _ _ _ _ (ap (gift kind) h.offers ∙ gift-cons kind x b.offers) (ap least h.codes) (let m = h.moves in omega arith)
+pub promise_code : (kind : FinishKind) (c : ℕ) (q : Acts) → promised_by kind (Code c ∷ q) ≡ record {
+  gift = (promised_by kind q).gift;
+  fault = min c
+      (promised_by kind q).fault;
+  moves = (promised_by kind q).moves;
+}
+unfolding moves_of
+promise_code kind c q =
+    let m : 0 + moves_of q ≡ moves_of q = omega arith in
+    let l : min no_fault (min c (least (codes_of q))) ≡ min c (min no_fault (least (codes_of q))) = omega arith in
+    ap (λ f. record { gift = gift kind (offers_of q); fault = f; moves = 0 + moves_of q }) l
+    ∙ ap (λ n. record { gift = gift kind (offers_of q); fault = min c (min no_fault (least (codes_of q))); moves = n }) m
 
-pub fault_splits : (kind : FinishKind) (c w : ℕ) (a b : Eval) → Leaves (giving [] (c ∷ []) 0 w) a b →
-    result_of kind a ≡ promise (gift kind b.offers) (min c (least b.codes)) b.moves
-fault_splits kind c w a b h =
-    promises _ _ _ _ _ _ (ap (gift kind) h.offers) (ap least h.codes) (let m = h.moves in omega arith)
+promise_move : (kind : FinishKind) (b : Piece) (q : Acts) → moves_of (Begin b ∷ []) ≡ 1 →
+    promised_by kind (Begin b ∷ q) ≡ record { gift = (promised_by kind q).gift; fault = (promised_by kind q).fault; moves = (promised_by kind q).moves + 1 }
+unfolding moves_of
+promise_move kind b q e =
+    let m : moves_of (Begin b ∷ q) ≡ moves_of q + 1 = omega (arith, e) in
+    ap (λ n. record { gift = gift kind (offers_of q); fault = min no_fault (least (codes_of q)); moves = n }) m
 
--- the move of an async that runs inside
-pub held_splits : (kind : FinishKind) (w : ℕ) (a b : Eval) → Leaves (giving [] [] 1 w) a b →
-    result_of kind a ≡ promise (join kind (identity kind) (gift kind b.offers)) (min no_fault (least b.codes)) (0 + b.moves + 1)
-held_splits kind w a b h =
-    let l = least_le b.codes in
-    promises _ _ _ _ _ _ (ap (gift kind) h.offers ∙ sym (gift_is kind b.offers)) (ap least h.codes ∙ omega arith) (let m = h.moves in omega arith)
+pub promise_add : (kind : FinishKind) (p q : Acts) → promised_by kind (p ++ q) ≡ add kind (promised_by kind p) (promised_by kind q)
+promise_add kind p q =
+    let l : min (least (codes_of p)) (min no_fault (least (codes_of q))) ≡ min (min no_fault (least (codes_of p))) (min no_fault (least (codes_of q))) =
+    let h = least_le (codes_of p) in omega arith in
+    promise_both kind p q ∙ ap (λ f. record {
+      gift = join kind (gift kind (offers_of p)) (gift kind (offers_of q));
+      fault = f;
+      moves = moves_of p + moves_of q;
+    }) l
 
-by_end : (x : End) → least (end_codes x) ≡ end_code x
-by_end (Fell vars) = refl
-by_end (Back v) = refl
-by_end (Fault c) = refl
+pub promise_async : (kind : FinishKind) (p q : Acts) → promised_by kind (Begin Async ∷ (p ++ q)) ≡ (let t = add kind (promised_by kind p)
+    (promised_by kind q) in record { gift = t.gift; fault = t.fault; moves = t.moves + 1 })
+unfolding moves_of
+promise_async kind p q = promise_move kind Async (p ++ q) refl
+    ∙ ap (λ (t : Promise). record { gift = t.gift; fault = t.fault; moves = t.moves + 1 }) (promise_add kind p q)
 
-async_codes : (e : Eval) → least (e.codes ++ end_codes e.end) ≡ fault_of e
-async_codes e = least-append e.codes (end_codes e.end) ∙ ap (min (least e.codes)) (by_end e.end)
+-- a finish that is passed over adds its moves
+pub promise_passed : (kind : FinishKind) (p q : Acts) → promised_by kind (passed p ++ q) ≡ record {
+  gift = (promised_by kind q).gift;
+  fault =
+      (promised_by kind q).fault;
+  moves = moves_of p + (promised_by kind q).moves;
+}
+promise_passed kind p q =
+    let g : join kind (gift kind (offers_of (passed p))) (gift kind (offers_of q)) ≡ gift kind (offers_of q) =
+    ap (λ os. join kind (gift kind os) (gift kind (offers_of q))) (passed_offers p) ∙ gift_is kind (offers_of q) in
+    let l : min (least (codes_of (passed p))) (min no_fault (least (codes_of q))) ≡ min no_fault (least (codes_of q)) =
+    ap (λ cs. min (least cs) (min no_fault (least (codes_of q)))) (passed_codes p) ∙ omega arith in
+    promise_both kind (passed p) q
+    ∙ ap (λ x. record { gift = x; fault = min (least (codes_of (passed p))) (min no_fault (least (codes_of q))); moves = moves_of (passed p) + moves_of q }) g
+    ∙ ap (λ f. record { gift = gift kind (offers_of q); fault = f; moves = moves_of (passed p) + moves_of q }) l
+    ∙ ap (λ n. record { gift = gift kind (offers_of q); fault = min no_fault (least (codes_of q)); moves = n + moves_of q }) (passed_moves p)
 
-pub async_splits : (kind : FinishKind) (w : ℕ) (e a b : Eval) → Leaves (giving e.offers (e.codes ++ end_codes e.end) (e.moves + 1) w) a b →
-    result_of kind a ≡ promise (join kind (gift kind e.offers) (gift kind b.offers)) (min (fault_of e) (least b.codes)) (e.moves + b.moves + 1)
-async_splits kind w e a b h =
-    promises _ _ _ _ _ _ (ap (gift kind) h.offers ∙ gift-append kind e.offers b.offers)
-    (ap least h.codes ∙ least-append (e.codes ++ end_codes e.end) b.codes ∙ ap (λ z. min z (least b.codes)) (async_codes e)) (let m = h.moves in omega arith)
-
-pub finish_splits : (kind : FinishKind) (m w : ℕ) (a b : Eval) → Leaves (giving [] [] (m + 1) w) a b → result_of kind a ≡ promise (gift kind b.offers) (least b.codes) (m + b.moves + 1)
-finish_splits kind m w a b h =
-    promises _ _ _ _ _ _ (ap (gift kind) h.offers) (ap least h.codes) (let x = h.moves in omega arith)
-
--- The task of a block promises the block's result.
-pub block_promises : (calls : CallMeaning) (kind : FinishKind) (b : CodeBlock) (vars : List ℤ) → result_of kind (async_of [] (eval_block calls b vars)) ≡ job_result kind (eval_block calls b vars)
-block_promises calls kind b vars = promises _ _ _ _ _ _ refl (async_codes (eval_block calls b vars)) refl
+pub promise_finish : (kind : FinishKind) (p q : Acts) → promised_by kind (Begin Finish ∷ (passed p ++ q)) ≡ record {
+  gift = (promised_by kind q).gift;
+  fault = (promised_by kind q).fault;
+  moves = moves_of p + (promised_by kind q).moves + 1;
+}
+unfolding moves_of
+promise_finish kind p q = promise_move kind Finish (passed p ++ q) refl
+    ∙ ap (λ (t : Promise). record { gift = t.gift; fault = t.fault; moves = t.moves + 1 }) (promise_passed kind p q)

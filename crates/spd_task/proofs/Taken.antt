@@ -1,173 +1,203 @@
 -- Parts that are taken inside.
-use Rattle.std.proofs.Common.{◌≡◌, ◌≢◌, ℕ, ◌+◌, List, [], ◌∷◌, ◌++◌, length, refl, sym, ◌∙◌, ap, arith, ℤ, min, Vec, Global}
-use Rattle.std.proofs.lemmas.List.{append-nil, length-append}
-use Rattle.spd_words.specs.Gift.{no_fault, gift, least}
-use Rattle.spd_words.specs.Meaning.{Promise, add}
+use Rattle.std.proofs.Common.{◌≡◌, ◌≢◌, ℕ, ◌+◌, ◌<◌, List, [], ◌∷◌, ◌++◌, length, refl, sym, ◌∙◌, ap, subst, arith}
+use Rattle.std.proofs.Common.{append_assoc, ℤ, Bor, inl, inr, Vec, Global, length-append}
+use Rattle.std.specs.Prelude.{min}
+use Rattle.std.proofs.lemmas.Grind.{flat_map-append}
+use Rattle.spd_words.specs.Total.{nothing}
+use Rattle.spd_words.specs.Meaning.{Promise, add, empty}
 use Rattle.spd_words.specs.BodyCalls.{TakesIn, with_part}
-use Rattle.spd_words.proofs.Joins.{gift-append, gift_is, least_le, least-append}
 use Rattle.spd_words.specs.declared.finish_kind.FinishKind.{FinishKind}
 use Rattle.spd_words.specs.declared.event.Part.TheVariants as part
-use Rattle.spd_elide.specs.Eval.{CallMeaning, Fell, Eval, quiet, async_of, end_codes}
-use Rattle.spd_elide.specs.Leaves.{Leaves, giving, moving}
-use Rattle.spd_elide.specs.Left.{frames_of, frame_of, level_of, now_of, finish_left}
-use Rattle.spd_elide.specs.Machine.{machine_of, machine_from, weight, insides_weight}
-use Rattle.spd_elide.specs.declared.frames.FinishAt.{FinishAt}
-use Rattle.spd_elide.specs.declared.frames.Frame.{Frame}
-use Rattle.spd_elide.specs.declared.frames.Frame.TheVariants as frame
-use Rattle.spd_elide.specs.declared.frames.Flow.TheVariants as flow
-use Rattle.spd_elide.specs.declared.insides.Machine.{Machine}
-use Rattle.spd_elide.proofs.ThroughFrames.{leaves_frames, frames_of-snoc}
-use Rattle.spd_elide.proofs.Machines.{finish_leaves}
+use Rattle.spd_meaning.specs.Acts.{Acts, Over, heard, passed, passed_in, moves_of, work_of}
+use Rattle.spd_meaning.specs.Eval.{Fell, Eval, quiet, before, cut, for_finish, end_codes, async_left, finish_left, finish_end, job_total}
+use Rattle.spd_meaning.specs.Eval.{promised_by, promise_left}
+use Rattle.spd_code.specs.Coded.{Context, context_of, around_of, eval_block}
+use Rattle.spd_code.specs.Places.{bind_if}
+use Rattle.spd_level.specs.Left.{frame_left, frames_left, level_left, level_eval, level_now}
+use Rattle.spd_machine.specs.Machine.{insides_frames, machine_frames, insides_left, machine_left, machine_eval}
+use Rattle.spd_level.specs.declared.step.FinishAt.{FinishAt}
+use Rattle.spd_level.specs.declared.frame.Frame.{Frame}
+use Rattle.spd_level.specs.declared.frame.Frame.TheVariants as frame
+use Rattle.spd_level.specs.declared.frame.Flow.TheVariants as flow
+use Rattle.spd_machine.specs.declared.machine.Inside.{Inside}
+use Rattle.spd_code.specs.declared.tree.CodeTree.{CodeTree}
+use Rattle.spd_level.proofs.Through.{frames_before, frames-snoc}
+use Rattle.spd_meaning.proofs.Sequence.{nil_behind}
+use Rattle.spd_meaning.proofs.Hearing.{heard_both, work_both, work_passed, moves_both}
+use Rattle.spd_meaning.proofs.Collecting.{promise_heard}
+use Rattle.spd_machine.proofs.Moving.{machine_passed}
+use Rattle.spd_machine.proofs.Eliding.{finish_given}
+use Rattle.spd_task.specs.declared.task.State.{State}
 use Rattle.spd_task.specs.declared.task.State.TheVariants as state
 use Rattle.spd_task.specs.declared.task.Task.{Task}
-use Rattle.spd_task.specs.Task.{task_view, result_of, left_by, left_of, awaited_body, IsWhole, IsOfBlock}
-use Rattle.spd_task.proofs.Splits.{promises, promise}
-use Rattle.spd_task.proofs.Tame.{task_tame}
+use Rattle.spd_task.specs.Task.{awaited_body, behind_finish, left_by, context_in, left_of, task_view, fits_task, RunsBlock}
+use Rattle.spd_task.proofs.Splits.{promise_none, promise_add, promise_passed}
+use Rattle.spd_task.proofs.Events.{ready_left, block_left, no_work}
+use Rattle.spd_task.proofs.Views.{awaits, stands, tame_ready, block_moves, finish_promise}
 
-pub none_left : (xs : List Frame) → length xs ≡ 0 → xs ≡ []
-none_left [] h = refl
-none_left (x ∷ xs) h = absurd (omega arith)
+frames-append : (x : Context) (fs gs : List Frame) (a : Eval ℤ) → frames_left x (fs ++ gs) a ≡ frames_left x fs (frames_left x gs a)
+frames-append x [] gs a = refl
+frames-append x (f ∷ fs) gs a = ap (frame_left x f) (frames-append x fs gs a)
 
--- a lesser of two codes that aren't want of memory
-both_lawful : {a b c : ℕ} → a ≢ 0 → b ≢ 0 → c ≡ min b a → c ≢ 0
-both_lawful h g e = λ z. h (omega arith)
+-- an async whose frames stand upon those of the task
+async_stands : (o n b : Task) (saved : Vec ℤ Global) → n.code ≡ o.code → b.code.now ≡ o.code.now → b.machine.inside.items ≡ [] → b.state ≡ state.Ready →
+    o.state ≡ state.Ready → n.state ≡ state.Ready →
+    o.machine.inside.items ≡ [] → o.machine.level.flow ≡ flow.Fell → n.machine.inside.items ≡ o.machine.inside.items →
+    saved.items ≡ o.machine.level.vars.items →
+    n.machine.level.flow ≡ b.machine.level.flow → n.machine.level.vars.items ≡ b.machine.level.vars.items →
+    n.machine.level.frames.items ≡ (o.machine.level.frames.items ++ frame.Async saved ∷ []) ++ b.machine.level.frames.items →
+    left_of n ≡ before (for_finish (left_of b) ++ Over ∷ []) (left_of o)
+async_stands o n b saved cn cb bi bs os ns oi of ni sv nf nv fs =
+    let x = context_in o in
+    let lb = level_eval x b.machine.level in
+    let q = for_finish lb ++ Over ∷ [] in
+    let vars = o.machine.level.vars.items in
+    let bl : left_of b ≡ lb = ready_left b bs ∙ ap (λ (is : List Inside). insides_left (context_in b) is (level_eval (context_in b) b.machine.level)) bi
+    ∙ ap (λ c. level_eval (context_of c) b.machine.level) cb in
+    let ol : left_of o ≡ level_left x o.machine.level (quiet (Fell vars)) = ready_left o os
+    ∙ ap (λ (is : List Inside). insides_left x is (level_eval x o.machine.level)) oi ∙ rw of refl in
+    let nl : left_of n ≡ level_eval x n.machine.level = ready_left n ns ∙ ap (λ (c : Bor CodeTree). machine_eval (context_of c.now) n.machine) cn
+    ∙ ap (λ (is : List Inside). insides_left x is (level_eval x n.machine.level)) (ni ∙ oi) in
+    let al : async_left vars lb ≡ before q (quiet (Fell vars)) =
+    ap (λ (g : Acts). record { end = Fell vars; given = g }) (sym (append_assoc lb.given (end_codes lb.end) (Over ∷ [])) ∙ sym (nil_behind q)) in
+    let inner : level_eval x n.machine.level ≡ level_left x o.machine.level (async_left vars lb) =
+    rw (fs, nf, nv) (frames-append x (o.machine.level.frames.items ++ frame.Async saved ∷ []) b.machine.level.frames.items (level_now b.machine.level)
+    ∙ frames-snoc x o.machine.level.frames.items (frame.Async saved) lb ∙ ap (λ (vs : List ℤ). level_left x o.machine.level (async_left vs lb)) sv) in
+    nl ∙ inner ∙ ap (level_left x o.machine.level) al ∙ frames_before x o.machine.level.frames.items q (quiet (Fell vars))
+    ∙ ap (before q) (sym ol) ∙ ap (λ (y : Eval ℤ). before (for_finish y ++ Over ∷ []) (left_of o)) (sym bl)
 
-module _ (calls : CallMeaning) where
-  -- what is left of a task that is ready
-  left_ready : (t : Task) → t.state ≡ state.Ready → left_of calls t ≡ machine_of calls t.machine
-  left_ready t r = rw r refl
+-- the end of a piece is no work and no move
+over_work : work_of (Over ∷ []) ≡ 0
+unfolding work_of
+over_work = refl
 
-  -- ---- an async
+over_moves : moves_of (Over ∷ []) ≡ 0
+unfolding moves_of
+over_moves = refl
 
-  -- one that has nothing left
-  pub takes_nothing : (t b : Task) → t.state ≡ state.Ready → b.kind ≡ t.kind → IsWhole calls b → b.machine.level.frames.items ≡ [] →
-      TakesIn (task_view calls t) (task_view calls t) (part.Async (task_view calls b))
-  takes_nothing t b r k w bf =
-      let a0 = machine_of calls t.machine in
-      let l = least_le a0.codes in
-      let g = gift_is t.kind a0.offers in
-      let f : min no_fault (least a0.codes) ≡ least a0.codes = omega arith in
-      let m : 0 + a0.moves ≡ a0.moves = omega arith in
-      let lb : left_of calls b ≡ machine_of calls b.machine = left_ready b w.ready in
-      record {
-        kind = refl;
-        means = λ z. absurd (cc);
-        awaited = rw r refl;
-        stage = rw r refl;
-        wild = λ _. refl;
-        promise = λ _. rw (k, lb, w.inside, bf, r, g, f, m) refl;
-        tame = λ x y. x;
-        size = omega arith;
-      }
+work_over : (g : Acts) → work_of (g ++ Over ∷ []) ≡ work_of g
+work_over g = work_both g (Over ∷ []) ∙ (let z = over_work in omega arith)
 
-  frames_of-append : (xs ys : List Frame) (a : Eval) → frames_of calls (xs ++ ys) a ≡ frames_of calls xs (frames_of calls ys a)
-  frames_of-append [] ys a = refl
-  frames_of-append (f ∷ xs) ys a = ap (frame_of calls f) (frames_of-append xs ys a)
+moves_over : (g : Acts) → moves_of (g ++ Over ∷ []) ≡ moves_of g
+moves_over g = moves_both g (Over ∷ []) ∙ (let z = over_moves in omega arith)
 
-  -- It gives what it promised.
-  async_adds : (kind : FinishKind) (fs : List Frame) (vars : List ℤ) (b : Eval) → end_codes b.end ≡ [] →
-      let a = frames_of calls fs (async_of vars b) in
-      let c = frames_of calls fs (quiet (Fell vars)) in
-      (result_of kind a ≡ add kind (result_of kind b) (result_of kind c)) × (a.work ≡ b.work + c.work)
-  async_adds kind fs vars b e =
-      let h = leaves_frames calls fs (giving b.offers (b.codes ++ end_codes b.end) b.moves b.work) (async_of vars b) (quiet (Fell vars)) (record {
-        end = refl;
-        offers = sym (append-nil b.offers);
-        codes = sym (append-nil (b.codes ++ end_codes b.end));
-        moves = omega arith;
-        work = omega arith;
-      }) in
-      let c = frames_of calls fs (quiet (Fell vars)) in
-      let codes : least (b.codes ++ end_codes b.end) ≡ least b.codes = ap (λ x. least (b.codes ++ x)) e ∙ ap least (append-nil b.codes) in
-      (promises _ _ _ _ _ _ (ap (gift kind) h.offers ∙ gift-append kind b.offers c.offers) (ap least h.codes ∙ least-append (b.codes ++ end_codes b.end) c.codes ∙ ap (λ x. min x (least c.codes)) codes) h.moves, h.work)
+work_async : (o n b : Task) → left_of n ≡ before (for_finish (left_of b) ++ Over ∷ []) (left_of o) →
+    work_of (left_of n).given ≡ work_of (left_of b).given + work_of (left_of o).given
+work_async o n b e =
+    ap (λ (y : Eval ℤ). work_of y.given) e ∙ work_both (for_finish (left_of b) ++ Over ∷ []) (left_of o).given
+    ∙ ap (λ (v : ℕ). v + work_of (left_of o).given) (work_over (for_finish (left_of b)) ∙ work_both (left_of b).given (end_codes (left_of b).end) ∙
+    (let z = no_work (left_of b).end in omega arith))
 
-  -- what is left where its frames stand upon those of a task over which finishes don't run
-  left_upon : (t n b : Task) (saved : Vec ℤ Global) → t.machine.inside.items ≡ [] → n.state ≡ state.Ready → n.machine.inside ≡ t.machine.inside →
-      n.machine.level.flow ≡ b.machine.level.flow → n.machine.level.vars.items ≡ b.machine.level.vars.items → saved.items ≡ t.machine.level.vars.items →
-      n.machine.level.frames.items ≡ (t.machine.level.frames.items ++ frame.Async saved ∷ []) ++ b.machine.level.frames.items →
-      left_of calls n ≡ frames_of calls t.machine.level.frames.items (async_of t.machine.level.vars.items (level_of calls b.machine.level))
-  left_upon t n b saved ti ns ni nf nv sv fr =
-      left_ready n ns ∙ (rw (
-        ni,
-        ti,
-        fr,
-        nf,
-        nv,
-        frames_of-append (t.machine.level.frames.items ++ frame.Async saved ∷ []) b.machine.level.frames.items (now_of b.machine.level),
-        frames_of-snoc calls t.machine.level.frames.items (frame.Async saved) (level_of calls b.machine.level),
-        sv,
-      ) refl)
+pub async_taken : (o n b : Task) (saved : Vec ℤ Global) → fits_task o (part.Async b) → 0 < length b.machine.level.frames.items → n.code ≡ o.code →
+    n.kind ≡ o.kind → n.state ≡ o.state →
+    n.machine.inside.items ≡ o.machine.inside.items → saved.items ≡ o.machine.level.vars.items →
+    n.machine.level.flow ≡ b.machine.level.flow → n.machine.level.vars.items ≡ b.machine.level.vars.items →
+    n.machine.level.frames.items ≡ (o.machine.level.frames.items ++ frame.Async saved ∷ []) ++ b.machine.level.frames.items →
+    TakesIn (task_view o) (task_view n) (part.Async (task_view b))
+async_taken o n b saved (r, k, s, inr z) p cn kn sn ni sv nf nv fs = absurd (let y : length b.machine.level.frames.items ≡ 0 = ap length z in omega arith)
+async_taken o n b saved (r, k, s, inl (oi, of)) p cn kn sn ni sv nf nv fs =
+    let ns : n.state ≡ state.Ready = sn ∙ s in
+    let e = async_stands o n b saved cn r.code r.inside r.state s ns oi of ni sv nf nv fs in
+    let q = for_finish (left_of b) ++ Over ∷ [] in
+    let g : for_finish (left_of n) ≡ q ++ for_finish (left_of o) = ap for_finish e ∙ finish_given q (left_of o) in
+    let h : heard (for_finish (left_of n)) ≡ heard (for_finish (left_of b) ++ for_finish (left_of o)) =
+    ap heard g ∙ heard_both q (for_finish (left_of o)) ∙ ap (λ (y : Acts). y ++ heard (for_finish (left_of o))) (heard_both (for_finish (left_of b))
+    (Over ∷ []) ∙ nil_behind (heard (for_finish (left_of b)))) ∙ sym (heard_both (for_finish (left_of b)) (for_finish (left_of o))) in
+    let pr : promise_left n.kind (left_of n) ≡ add o.kind (promise_left b.kind (left_of b)) (promise_left o.kind (left_of o)) =
+    ap (λ (kd : FinishKind). promise_left kd (left_of n)) kn ∙ promise_heard o.kind (for_finish (left_of n)) (for_finish (left_of b) ++ for_finish
+    (left_of o)) h
+    ∙ promise_add o.kind (for_finish (left_of b)) (for_finish (left_of o))
+    ∙ ap (λ (kd : FinishKind). add o.kind (promise_left kd (left_of b)) (promise_left o.kind (left_of o))) (sym k) in
+    let w : work_of (left_of n).given ≡ work_of (left_of b).given + work_of (left_of o).given = work_async o n b e in
+    let l : length (end_codes (left_of n).end) ≡ length (end_codes (left_of o).end) = ap (λ (y : Eval ℤ). length (end_codes y.end)) e in
+    let fl : length n.machine.level.frames.items ≡ length o.machine.level.frames.items + 1 + length b.machine.level.frames.items =
+    ap length fs ∙ length-append (o.machine.level.frames.items ++ frame.Async saved ∷ []) b.machine.level.frames.items
+    ∙ ap (λ m. m + length b.machine.level.frames.items) (length-append o.machine.level.frames.items (frame.Async saved ∷ [])) in
+    let iw : insides_frames n.machine.inside.items ≡ insides_frames o.machine.inside.items = ap insides_frames ni in
+    record {
+      kind = kn;
+      means = λ z. absurd (cc);
+      awaited = awaits n state.Ready ns;
+      stage = stands n state.Ready ns;
+      wild = λ _. refl;
+      promise = λ _. pr;
+      tame = λ t u. tame_ready n ns (λ z. two_faults (promise_left b.kind (left_of b)).fault
+          (promise_left o.kind (left_of o)).fault u.promise.memory t.promise.memory (sym (ap (λ (y : Promise). y.fault) pr) ∙ z));
+      size = omega arith;
+    }
+  where
+    two_faults : (m n : ℕ) → m ≢ 0 → n ≢ 0 → min m n ≡ 0 → ⊥
+    two_faults m n h g z = omega (arith, h, g, z)
 
-  pub takes_async : (t n b : Task) (saved : Vec ℤ Global) → t.state ≡ state.Ready → b.kind ≡ t.kind → IsWhole calls b →
-      t.machine.inside.items ≡ [] → t.machine.level.flow ≡ flow.Fell → n.state ≡ t.state → n.kind ≡ t.kind → n.machine.inside ≡ t.machine.inside →
-      n.machine.level.flow ≡ b.machine.level.flow → n.machine.level.vars.items ≡ b.machine.level.vars.items → saved.items ≡ t.machine.level.vars.items →
-      n.machine.level.frames.items ≡ (t.machine.level.frames.items ++ frame.Async saved ∷ []) ++ b.machine.level.frames.items →
-      TakesIn (task_view calls t) (task_view calls n) (part.Async (task_view calls b))
-  takes_async t n b saved r k w ti tf ns nk ni nf nv sv fr =
-      let vars = t.machine.level.vars.items in
-      let nr : n.state ≡ state.Ready = ns ∙ r in
-      let lt : left_of calls t ≡ frames_of calls t.machine.level.frames.items (quiet (Fell vars)) = left_ready t r ∙ (rw (ti, tf) refl) in
-      let lb : left_of calls b ≡ level_of calls b.machine.level = left_ready b w.ready ∙ (rw w.inside refl) in
-      let mb : machine_of calls b.machine ≡ level_of calls b.machine.level = rw w.inside refl in
-      let be : end_codes (level_of calls b.machine.level).end ≡ [] = ap (λ x. end_codes x.end) (sym mb) ∙ w.faultless_end in
-      let ln = left_upon t n b saved ti nr ni nf nv sv fr in
-      let h = async_adds t.kind t.machine.level.frames.items vars (level_of calls b.machine.level) be in
-      let x = h.1 in
-      let wn = ap (λ (a : Eval). a.work) ln in
-      let wb = ap (λ (a : Eval). a.work) lb in
-      let wt = ap (λ (a : Eval). a.work) lt in
-      let f : length n.machine.level.frames.items ≡ length t.machine.level.frames.items + 1 + length b.machine.level.frames.items =
-      ap length fr ∙ omega (arith, length-append (t.machine.level.frames.items ++ frame.Async saved ∷ []) b.machine.level.frames.items, length-append t.machine.level.frames.items (frame.Async saved ∷ [])) in
-      let i : insides_weight n.machine.inside.items ≡ insides_weight t.machine.inside.items = ap (λ y. insides_weight y.items) ni in
-      let p : (task_view calls n).means.promise ≡ add t.kind (task_view calls b).means.promise (task_view calls t).means.promise = rw (nk, ln, k, lb, lt) h.0 in
-      record {
-        kind = nk;
-        means = λ z. absurd (cc);
-        awaited = rw nr refl;
-        stage = rw nr refl;
-        wild = λ _. refl;
-        promise = λ _. p;
-        tame = λ tt' bt. task_tame calls n (rw nr refl) (both_lawful tt'.promise.memory bt.promise.memory (ap (λ (q : Promise). q.fault) p));
-        size = omega arith;
-      }
+-- nothing was left of it
+pub nothing_taken : (o b : Task) → fits_task o (part.Async b) → b.machine.level.frames.items ≡ [] →
+    TakesIn (task_view o) (task_view o) (part.Async (task_view b))
+nothing_taken o b (r, k, s, z) e =
+    let vars = b.machine.level.vars.items in
+    let lb : left_of b ≡ quiet (Fell vars) = ready_left b r.state
+    ∙ ap (λ (is : List Inside). insides_left (context_in b) is (level_eval (context_in b) b.machine.level)) r.inside ∙ rw (r.falls_through, e) refl in
+    let pb : promise_left b.kind (left_of b) ≡ empty o.kind = ap (promise_left b.kind) lb ∙ promise_none b.kind ∙ ap empty k in
+    let pr : promise_left o.kind (left_of o) ≡ add o.kind (promise_left b.kind (left_of b)) (promise_left o.kind (left_of o)) =
+    sym (sym (promise_add o.kind [] (for_finish (left_of o))) ∙ refl)
+    ∙ ap (λ (y : Promise). add o.kind y (promise_left o.kind (left_of o))) (promise_none o.kind ∙ sym pb) in
+    record {
+      kind = refl;
+      means = λ z. absurd (cc);
+      awaited = awaits o state.Ready s;
+      stage = stands o state.Ready s;
+      wild = λ _. refl;
+      promise = λ _. pr;
+      tame = λ t u. t;
+      size = omega arith;
+    }
 
-  -- ---- the body of a finish
+-- ---- finishes
 
-  -- The finish that a task waits for is opened inside.
-  opened_finish : (t n : Machine) (f : FinishAt) → Leaves moving (machine_from calls t (finish_left calls f t.level.vars.items)) (machine_of calls n) →
-      let e = awaited_body calls f t in
-      Leaves (giving [] [] e.moves e.work) (machine_of calls n) (left_by calls (state.Waits f) t)
-  opened_finish t n f d =
-      let e = awaited_body calls f t in
-      let l = finish_leaves calls t f t.level.vars.items in
-      record {
-        end = sym d.end ∙ l.end;
-        offers = sym d.offers ∙ l.offers;
-        codes = sym d.codes ∙ l.codes;
-        moves = let x = d.moves in let y = l.moves in omega arith;
-        work = let x = d.work in let y = l.work in omega arith;
-      }
-
-  pub takes_finish : (t n b : Task) (f : FinishAt) → t.state ≡ state.Waits f → n.kind ≡ t.kind → n.state ≡ state.Ready → IsOfBlock calls f.body.now t.machine.level.vars.items f.kind (task_view calls b) →
-      Leaves moving (machine_from calls t.machine (finish_left calls f t.machine.level.vars.items)) (machine_of calls n.machine) → weight n.machine ≡ weight t.machine + 2 →
-      TakesIn (task_view calls t) (task_view calls n) (part.Finish f.kind (task_view calls b))
-  takes_finish t n b f ts nk ns o d w =
-      let e = awaited_body calls f t.machine in
-      let rest = left_by calls (state.Waits f) t.machine in
-      let h = opened_finish t.machine n.machine f d in
-      let q : result_of t.kind (machine_of calls n.machine) ≡ promise (gift t.kind rest.offers) (least rest.codes) (e.moves + rest.moves) =
-      promises _ _ _ _ _ _ (ap (gift t.kind) h.offers) (ap least h.codes) h.moves in
-      let p : (task_view calls n).means.promise ≡ with_part t.kind (part.Finish f.kind (task_view calls b)) (task_view calls t).means.promise =
-      rw (ap (λ (x : Promise). x.moves) o.promise, ts, nk, ns) q in
-      let x = h.work in
-      let s = o.size in
-      record {
-        kind = nk;
-        means = λ z. absurd (cc);
-        awaited = rw ns refl;
-        stage = rw ns refl;
-        wild = λ _. refl;
-        promise = λ _. p;
-        tame = λ tt' bt. task_tame calls n (rw ns refl) (λ z. tt'.promise.memory (sym (ap (λ (y : Promise). y.fault) p) ∙ z));
-        size = rw (ts, ns) (omega arith);
-      }
+pub finish_taken : (o n b : Task) (f : FinishAt) → fits_task o (part.Finish f.kind b) → o.state ≡ state.Waits f → n.code ≡ o.code → n.kind ≡ o.kind →
+    n.state ≡ state.Ready →
+    machine_frames n.machine ≡ machine_frames o.machine + 2 →
+    machine_left (context_in o) o.machine (finish_left f.kind (nothing f.kind) f.line (bind_if f.binds o.machine.level.vars.items)
+    (awaited_body (context_in o) f o.machine)) ≡ machine_eval (context_in o) n.machine →
+    TakesIn (task_view o) (task_view n) (part.Finish f.kind (task_view b))
+finish_taken o n b f (r, k, rb) s cn kn ns wn e =
+    let x = context_in o in
+    let a = awaited_body x f o.machine in
+    let bh = bind_if f.binds o.machine.level.vars.items in
+    let q = a.given ++ Over ∷ [] in
+    let blk = subst (λ (st : State). RunsBlock st f.kind o.machine b) s rb in
+    let p = finish_promise o b f r k blk.1 blk.2 in
+    let ol : left_of o ≡ behind_finish x f.line f.binds o.machine (job_total f.kind a) = ap (λ (st : State). left_by x st o.machine) s in
+    let gives : finish_left f.kind (nothing f.kind) f.line bh a ≡ before (passed q) (quiet (finish_end f.line bh (job_total f.kind a))) =
+    ap (λ (g : Acts). record { end = finish_end f.line bh (job_total f.kind a); given = g })
+    (sym (flat_map-append passed_in a.given (Over ∷ [])) ∙ sym (nil_behind (passed q))) in
+    let nl : left_of n ≡ before (passed q) (left_of o) =
+    ready_left n ns ∙ ap (λ (c : Bor CodeTree). machine_eval (context_of c.now) n.machine) cn ∙ sym e ∙ ap (machine_left x o.machine) gives
+    ∙ machine_passed x o.machine q (quiet (finish_end f.line bh (job_total f.kind a))) ∙ ap (before (passed q)) (sym ol) in
+    let g : for_finish (left_of n) ≡ passed q ++ for_finish (left_of o) = ap for_finish nl ∙ finish_given (passed q) (left_of o) in
+    let lb : left_of b ≡ cut 0 (eval_block (around_of (context_in b) f.left) f.body.now o.machine.level.vars.items) =
+    block_left b f.body f.left o.machine.level.vars.items r.state r.inside r.falls_through blk.1 blk.2 in
+    let lg : (left_of b).given ≡ a.given = ap (λ (y : Eval ℤ). y.given) lb
+    ∙ ap (λ c. (eval_block (around_of (context_of c) f.left) f.body.now o.machine.level.vars.items).given) r.code in
+    let m : moves_of q ≡ (promise_left b.kind (left_of b)).moves = moves_over a.given ∙ ap moves_of (sym lg) ∙ sym (block_moves (left_of b)) in
+    let pr : promise_left n.kind (left_of n) ≡ with_part o.kind (part.Finish f.kind (task_view b)) (promise_left o.kind (left_of o)) =
+    ap (λ (kd : FinishKind). promise_left kd (left_of n)) kn ∙ ap (promised_by o.kind) g ∙ promise_passed o.kind q (for_finish (left_of o))
+    ∙ ap (λ (mm : ℕ). record {
+      gift = (promise_left o.kind (left_of o)).gift;
+      fault = (promise_left o.kind (left_of o)).fault;
+      moves = mm + (promise_left o.kind (left_of o)).moves;
+    }) m in
+    let w : work_of (left_of n).given ≡ work_of (left_of b).given + work_of (left_of o).given =
+    ap (λ (y : Eval ℤ). work_of y.given) nl ∙ work_both (passed q) (left_of o).given
+    ∙ ap (λ (v : ℕ). v + work_of (left_of o).given) (work_passed q ∙ work_over a.given ∙ ap work_of (sym lg)) in
+    let l : length (end_codes (left_of n).end) ≡ length (end_codes (left_of o).end) = ap (λ (y : Eval ℤ). length (end_codes y.end)) nl in
+    let fb : length b.machine.level.frames.items ≡ 1 = ap length blk.2 in
+    record {
+      kind = kn;
+      means = λ z. absurd (cc);
+      awaited = awaits n state.Ready ns;
+      stage = stands n state.Ready ns;
+      wild = λ _. refl;
+      promise = λ _. pr;
+      tame = λ t u. tame_ready n ns (λ z. t.promise.memory (sym (ap (λ (y : Promise). y.fault) pr) ∙ z));
+      size = omega arith;
+    }

@@ -1,3 +1,2 @@
 pub mod Task
-pub mod Dag
-pub mod DagSteps
+pub mod TaskEvents

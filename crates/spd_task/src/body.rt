@@ -3,7 +3,6 @@
 ghost use Rattle.std.specs.Prelude.{◌≡◌, ◌≢◌, IfOk, OnErr, None, IsSome};
 ghost use Rattle.spd_words.specs.Meaning.{Going, Ended};
 ghost use Rattle.spd_words.specs.BodyCalls.{Advances, StaysTame, event_seen, FitsNext, TakesIn, part_seen, Resumes};
-ghost use Rattle.spd_elide.specs.Eval.{no_calls};
 
 use crate::task::{State, Task};
 use spd_words::{Body, Event, FinishKind, Given, Part};
@@ -11,13 +10,14 @@ use std::alloc::{AllocError, Global};
 use std::mem;
 
 impl<'a> Body for Task<'a> {
-    ghost use Rattle.spd_task.specs.Task.{view_of, fits_part, resumed_promise, left_of, OverExactly};
+    ghost use Rattle.spd_task.specs.Task.{task_view, fits_task, resumed_task, left_of};
+    ghost use Rattle.spd_task.specs.TaskEvents.{IsNext};
 
-    ghost view = { view_of };
+    ghost view = { task_view };
 
-    ghost fits = { fits_part };
+    ghost fits = { fits_task };
 
-    ghost resumed = { resumed_promise };
+    ghost resumed = { resumed_task };
 
     fn kind(&self) -> FinishKind {
         self.kind
@@ -30,14 +30,14 @@ impl<'a> Body for Task<'a> {
         }
     }
 
-    /// It is over exactly where what is left gives no offer, no fault and no move.
+    /// The event is the next thing that the meaning gives of what is left.
     fn advance(&mut self, alloc: Global) -> Event<Task<'a>>
-        requires awaited { (view_of self.old).means.awaited ≡ None }
-        requires stage { (view_of self.old).stage ≢ Ended }
-        ensures step { Advances (view_of self.old) (view_of self.new) (event_seen view_of result) }
-        ensures tame { StaysTame (view_of self.old) (view_of self.new) (event_seen view_of result) }
-        ensures part { FitsNext fits_part self.new result }
-        ensures over { OverExactly (left_of no_calls self.old) result }
+        requires awaited { (task_view self.old).means.awaited ≡ None }
+        requires stage { (task_view self.old).stage ≢ Ended }
+        ensures step { Advances (task_view self.old) (task_view self.new) (event_seen task_view result) }
+        ensures tame { StaysTame (task_view self.old) (task_view self.new) (event_seen task_view result) }
+        ensures part { FitsNext fits_task self.new result }
+        ensures exact { IsNext (left_of self.old) self.new result }
     {
         match self.step(alloc) {
             Ok(event) => event,
@@ -49,10 +49,11 @@ impl<'a> Body for Task<'a> {
     }
 
     fn inside(&mut self, _alloc: Global, part: Part<Task<'a>>) -> Result<(), AllocError>
-        requires fits { fits_part self.old part }
-        requires stage { (view_of self.old).stage ≡ Going }
-        ensures part { IfOk result (λ _. TakesIn (view_of self.old) (view_of self.new) (part_seen view_of part.entry)) }
-        ensures memory { OnErr result ((view_of self.new).stage ≡ Ended) }
+        requires fits { fits_task self.old part }
+        requires stage { (task_view self.old).stage ≡ Going }
+        ensures part { IfOk result (λ _.
+            TakesIn (task_view self.old) (task_view self.new) (part_seen task_view part.entry)) }
+        ensures memory { OnErr result ((task_view self.new).stage ≡ Ended) }
     {
         match self.take(part) {
             Ok(()) => Ok(()),
@@ -65,9 +66,9 @@ impl<'a> Body for Task<'a> {
 
     /// What it was resumed with is kept; the next `advance` goes on with it.
     fn resume(&mut self, gift: i64, fault: u64)
-        requires awaited { IsSome (view_of self.old).means.awaited }
-        requires stage { (view_of self.old).stage ≡ Going }
-        ensures { Resumes (view_of self.old) (view_of self.new) (resumed_promise self.old gift fault) gift fault }
+        requires awaited { IsSome (task_view self.old).means.awaited }
+        requires stage { (task_view self.old).stage ≡ Going }
+        ensures { Resumes (task_view self.old) (task_view self.new) (resumed_task self.old gift fault) gift fault }
     {
         self.state = match mem::replace(&mut self.state, State::Ended) {
             State::Waits(finish) => State::Resumed {

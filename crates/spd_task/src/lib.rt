@@ -1,14 +1,10 @@
-//! Tasks: jobs that are cut into events, and regions on one thread, which run any body.
+//! Tasks: jobs that are cut into events, and what runs them as regions on one thread.
 #![tactic(auto)]
 
 mod body;
-mod dag;
-mod finish;
-mod outer;
+mod parts;
 mod plain_regions;
-mod region;
 mod task;
 
 pub use plain_regions::PlainRegions;
-pub use region::{Region, run_within};
 pub use task::Task;

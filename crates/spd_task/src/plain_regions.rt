@@ -1,48 +1,41 @@
 // What runs jobs as dags of tasks on one thread.
 
 ghost use Rattle.std.specs.Prelude.{◌≡◌, IfOk};
-ghost use Rattle.spd_words.specs.Total.{settle};
-ghost use Rattle.spd_check.specs.declared.code.CodeBlock.{CodeBlock};
-ghost use Rattle.spd_elide.specs.Jobs.{IsLawful, JobGives};
-ghost use Rattle.spd_task.specs.Task.{view_of};
-ghost use Rattle.spd_task.specs.Dag.{MayRun, promised_total};
+ghost use Rattle.spd_words.specs.Total.{ended, settle};
+ghost use Rattle.spd_meaning.specs.Eval.{job_total};
+ghost use Rattle.spd_code.specs.Coded.{context_of};
+ghost use Rattle.spd_machine.specs.Elision.{job_eval};
+ghost use Rattle.spd_region.specs.Dag.{MayRun, promised_total};
+ghost use Rattle.spd_task.specs.Task.{task_view};
 
-use crate::region::run_within;
 use crate::task::Task;
-use spd_check::Code;
-use spd_elide::{Job, Regions};
+use spd_code::CodeTree;
+use spd_machine::{Job, Regions};
+use spd_region::run_within;
 use spd_words::{FinishKind, Given};
 use std::alloc::{AllocError, Global};
 
-/// Runs jobs as dags of tasks on one thread, with one plain counter for each finish and no bound of
-/// moves.
-#[derive(Drop)]
-pub struct PlainRegions<'a> {
-    code: &'a Code,
-}
+/// Runs each job as a dag of tasks on one thread, with one plain counter for each finish and no bound
+/// of moves.
+#[derive(Clone, Copy, Debug)]
+pub struct PlainRegions;
 
-impl<'a> PlainRegions<'a> {
-    /// What runs jobs over this code.
-    pub fn new(code: &'a Code) -> PlainRegions<'a>
-        ensures { ⟦<PlainRegions<'a> as Regions>⟧.code result ≡ code.now }
-    {
-        PlainRegions { code }
-    }
-}
-
-impl<'a> Regions for PlainRegions<'a> {
-    ghost code = { λ regions. regions.code.now };
-
-    fn region(&mut self, alloc: Global, job: Job) -> Result<Given, AllocError> {
-        let given = run_job(alloc, self.code, job)?;
+impl Regions for PlainRegions {
+    fn region<'a>(
+        &mut self,
+        alloc: Global,
+        code: &'a CodeTree,
+        job: Job<'a>,
+    ) -> Result<Given, AllocError> {
+        let given = run_job(alloc, code, job)?;
         Ok(given)
     }
 }
 
 /// What a job gives over a code, by a dag whose first vertex runs its task.
-fn run_job(alloc: Global, code: &Code, job: Job) -> Result<Given, AllocError>
-    requires { IsLawful code.now job.body }
-    ensures { IfOk result (λ given. JobGives code.now job given) }
+fn run_job<'a>(alloc: Global, code: &'a CodeTree, job: Job<'a>) -> Result<Given, AllocError>
+    ensures { IfOk result (λ given.
+        ended given ≡ job_total job.entry.kind (job_eval (context_of code.now) job.entry.body)) }
 {
     let kind = job.kind;
     let task = Task::of_job(alloc, code, job)?;
@@ -52,9 +45,8 @@ fn run_job(alloc: Global, code: &Code, job: Job) -> Result<Given, AllocError>
 
 /// What a finish of this kind gives whose first vertex runs a task.
 fn run_task<'a>(alloc: Global, kind: FinishKind, task: Task<'a>) -> Result<Given, AllocError>
-    requires { MayRun kind (view_of task) }
-    ensures gift { IfOk result (λ given. given.gift ≡ (settle (promised_total (view_of task.entry))).gift) }
-    ensures fault { IfOk result (λ given. given.fault ≡ (settle (promised_total (view_of task.entry))).fault) }
+    requires { MayRun kind (task_view task) }
+    ensures { IfOk result (λ given. ended given ≡ settle (promised_total (task_view task.entry))) }
 {
     let region = run_within(alloc, kind, task, u64::MAX)?;
     Ok(region.given)

@@ -1,19 +1,21 @@
 // What is left of the body of a finish or of an async, and its events.
 
-ghost use Rattle.std.specs.Prelude.{◌≡◌, ◌≢◌, [], IfOk, None};
-ghost use Rattle.spd_words.specs.Meaning.{Going, IsTame, empty};
-ghost use Rattle.spd_words.specs.BodyCalls.{FitsNext, IsReady};
-ghost use Rattle.spd_words.specs.declared.event.Part.TheVariants as part;
-ghost use Rattle.spd_elide.specs.Eval.{no_calls};
-ghost use Rattle.spd_elide.specs.Jobs.{IsLawful};
-ghost use Rattle.spd_elide.specs.Machine.{machine_of, weight};
+ghost use Rattle.std.specs.Prelude.{◌≡◌, [], ◌∷◌, IfOk, None};
+ghost use Rattle.spd_words.specs.Meaning.{Going, IsTame};
+ghost use Rattle.spd_words.specs.BodyCalls.{IsReady};
+ghost use Rattle.spd_meaning.specs.Eval.{for_finish, promise_left};
+ghost use Rattle.spd_code.specs.Coded.{context_of};
+ghost use Rattle.spd_machine.specs.Machine.{machine_eval, machine_frames};
+ghost use Rattle.spd_machine.specs.Elision.{job_eval};
+ghost use Rattle.spd_level.specs.declared.frame.Frame.TheVariants as frame;
 ghost use Rattle.spd_task.specs.declared.task.State.TheVariants as state;
-ghost use Rattle.spd_task.specs.Task.{view_of, fits_part, left_of, IsWhole, RunsBlock, PromisesJob};
-ghost use Rattle.spd_task.specs.Task.{FinishHasFault, OverExactly, CodeIsTold, TaskAdvances, TaskTakesIn};
+ghost use Rattle.spd_task.specs.Task.{context_in, left_of, task_view, IsFreshTask};
+ghost use Rattle.spd_task.specs.TaskEvents.{TaskGave, EndGives};
 
-use spd_check::{Code, CodeBlock};
-use spd_elide::{FinishAt, Frame, Job, JobBody, Level, Machine, Met, copy_of};
-use spd_words::{Event, FinishKind, Given, NO_FAULT, Part};
+use spd_code::{CodeBlock, CodeTree};
+use spd_level::{FinishAt, Flow, Level, copy_of};
+use spd_machine::{Job, Machine, Met, level_of_job};
+use spd_words::{Event, FinishKind, Given, NO_FAULT};
 use std::alloc::{AllocError, Global};
 use std::mem;
 
@@ -37,72 +39,96 @@ pub enum State<'a> {
 /// What is left of the body of a finish or of an async.
 #[derive(Drop)]
 pub struct Task<'a> {
+    pub(crate) code: &'a CodeTree,
     pub(crate) kind: FinishKind,
     pub(crate) machine: Machine<'a>,
     pub(crate) state: State<'a>,
 }
 
 impl<'a> Task<'a> {
-    /// The body of a job. It fails where memory runs out.
-    pub fn of_job(alloc: Global, code: &'a Code, job: Job) -> Result<Task<'a>, AllocError>
-        requires { IsLawful code.now job.body }
-        ensures ready { IfOk result (λ task. IsReady job.kind (view_of task)) }
-        ensures promise { IfOk result (λ task. PromisesJob code.now job (view_of task)) }
-        ensures tame { IfOk result (λ task. IsTame (view_of task).means) }
+    /// The body of a job over a code. `AllocError` comes where memory runs out.
+    pub fn of_job(alloc: Global, code: &'a CodeTree, job: Job<'a>) -> Result<Task<'a>, AllocError>
+        ensures ready { IfOk result (λ task. IsReady job.entry.kind (task_view task)) }
+        ensures code { IfOk result (λ task. context_in task ≡ context_of code.now) }
+        ensures left { IfOk result (λ task.
+            for_finish (left_of task) ≡ for_finish (job_eval (context_of code.now) job.entry.body)) }
+        ensures promise { IfOk result (λ task. (task_view task).means.promise
+            ≡ promise_left job.entry.kind (job_eval (context_of code.now) job.entry.body)) }
+        ensures tame { IfOk result (λ task. IsTame (task_view task).means) }
     {
         let Job { kind, body } = job;
-        match body {
-            JobBody::Block { block, vars } => {
-                let vars = Vec::from_slice(alloc, vars.as_slice())?;
-                let task = Task::of_block(alloc, kind, code.block(block), vars)?;
-                Ok(task)
-            }
-        }
-    }
-
-    /// A block over these values.
-    fn of_block(
-        alloc: Global,
-        kind: FinishKind,
-        block: &'a CodeBlock,
-        vars: Vec<i64>,
-    ) -> Result<Task<'a>, AllocError>
-        ensures kind { IfOk result (λ task. task.kind ≡ kind) }
-        ensures whole { IfOk result (λ task. IsWhole no_calls task) }
-        ensures runs { IfOk result (λ task. RunsBlock block.now vars.items kind (view_of task)) }
-        ensures fault { IfOk result (λ task. (view_of task).means.promise.fault ≢ 0) }
-    {
-        let machine = Machine::of_block(alloc, block, vars)?;
+        let level = level_of_job(body)?;
         Ok(Task {
+            code,
             kind,
-            machine,
+            machine: Machine {
+                level,
+                inside: Vec::new(alloc),
+            },
             state: State::Ready,
         })
     }
 
-    /// A task of which nothing is left.
-    fn nothing(alloc: Global, kind: FinishKind) -> Task<'a>
-        ensures kind { result.kind ≡ kind }
-        ensures whole { IsWhole no_calls result }
-        ensures promise { (view_of result).means.promise ≡ empty kind }
-        ensures size { (view_of result).size ≡ 0 }
-        ensures none { result.machine.level.frames.items ≡ [] }
+    /// A task for a block over the values that are visible now, in which so many more calls may be
+    /// opened.
+    fn child(
+        &self,
+        alloc: Global,
+        kind: FinishKind,
+        body: &'a CodeBlock,
+        left: u32,
+    ) -> Result<Task<'a>, AllocError>
+        ensures fresh { IfOk result (λ task. IsFreshTask self.now task) }
+        ensures kind { IfOk result (λ task. task.kind ≡ kind) }
+        ensures vars { IfOk result (λ task. task.machine.level.vars.items ≡ self.now.machine.level.vars.items) }
+        ensures frames { IfOk result (λ task.
+            task.machine.level.frames.items ≡ frame.Block body.entry 0 0 left ∷ []) }
+    {
+        let vars = copy_of(&self.machine.level.vars)?;
+        let level = Level::of_block(body, left, vars)?;
+        Ok(Task {
+            code: self.code,
+            kind,
+            machine: Machine {
+                level,
+                inside: Vec::new(alloc),
+            },
+            state: State::Ready,
+        })
+    }
+
+    /// A task for the same finish, of which nothing is left.
+    fn nothing(&self, alloc: Global) -> Task<'a>
+        ensures fresh { IsFreshTask self.now result }
+        ensures kind { result.kind ≡ self.now.kind }
+        ensures vars { result.machine.level.vars.items ≡ [] }
+        ensures frames { result.machine.level.frames.items ≡ [] }
     {
         Task {
-            kind,
-            machine: Machine::nothing(alloc),
+            code: self.code,
+            kind: self.kind,
+            machine: Machine {
+                level: Level {
+                    flow: Flow::Fell,
+                    vars: Vec::new(alloc),
+                    frames: Vec::new(alloc),
+                },
+                inside: Vec::new(alloc),
+            },
             state: State::Ready,
         }
     }
 
     /// Goes on behind the finish that it was resumed from, if it was. It fails after want of memory.
     fn begin(&mut self) -> Result<(), AllocError>
-        requires { (view_of self.old).means.awaited ≡ None }
+        requires { (task_view self.old).means.awaited ≡ None }
+        ensures code { self.new.code ≡ self.old.code }
         ensures kind { self.new.kind ≡ self.old.kind }
         ensures ready { IfOk result (λ _. self.new.state ≡ state.Ready) }
-        ensures going { IfOk result (λ _. (view_of self.old).stage ≡ Going) }
-        ensures left { IfOk result (λ _. left_of no_calls self.old ≡ machine_of no_calls self.new.machine) }
-        ensures weight { IfOk result (λ _. weight self.new.machine ≡ weight self.old.machine) }
+        ensures going { IfOk result (λ _. (task_view self.old).stage ≡ Going) }
+        ensures frames { IfOk result (λ _. machine_frames self.new.machine ≡ machine_frames self.old.machine) }
+        ensures left { IfOk result (λ _.
+            left_of self.old ≡ machine_eval (context_in self.new) self.new.machine) }
     {
         match self.state {
             State::Ready => Ok(()),
@@ -120,18 +146,15 @@ impl<'a> Task<'a> {
 
     /// Goes on to the next event.
     pub(crate) fn step(&mut self, alloc: Global) -> Result<Event<Task<'a>>, AllocError>
-        requires { (view_of self.old).means.awaited ≡ None }
+        requires { (task_view self.old).means.awaited ≡ None }
+        ensures code { self.new.code ≡ self.old.code }
         ensures kind { self.new.kind ≡ self.old.kind }
-        ensures going { IfOk result (λ _. (view_of self.old).stage ≡ Going) }
-        ensures step { IfOk result (TaskAdvances self.old self.new) }
-        ensures part { IfOk result (λ event. FitsNext fits_part self.new event) }
-        ensures code { IfOk result CodeIsTold }
-        ensures fault { IfOk result (FinishHasFault no_calls) }
-        ensures over { IfOk result (λ event. OverExactly (left_of no_calls self.old) event) }
+        ensures going { IfOk result (λ _. (task_view self.old).stage ≡ Going) }
+        ensures gave { IfOk result (λ event.
+            TaskGave (left_of self.old) (machine_frames self.old.machine) self.old self.new event) }
     {
         self.begin()?;
-        let met = self.machine.run()?;
-        match met {
+        match self.machine.run(self.code)? {
             Met::Offer(x) => Ok(Event::Offer(x)),
             Met::Fault(code) => {
                 // No code of a program is that.
@@ -141,80 +164,47 @@ impl<'a> Task<'a> {
                 Ok(Event::Fault(code))
             }
             // Its body runs inside already; the event counts the move.
-            Met::Held => {
-                let nothing = Task::nothing(alloc, self.kind);
-                Ok(Event::Async(nothing))
-            }
-            Met::Async(body) => {
-                let vars = copy_of(&self.machine.level.vars)?;
-                let child = Task::of_block(alloc, self.kind, body, vars)?;
+            Met::Held => Ok(Event::Async(self.nothing(alloc))),
+            Met::Async { body, left } => {
+                let child = self.child(alloc, self.kind, body, left)?;
                 Ok(Event::Async(child))
             }
             Met::Finish(finish) => {
                 let kind = finish.kind;
-                let vars = copy_of(&self.machine.level.vars)?;
-                let child = Task::of_block(alloc, kind, finish.body, vars)?;
+                let child = self.child(alloc, kind, finish.body, finish.left)?;
                 self.state = State::Waits(finish);
                 Ok(Event::Finish(kind, child))
             }
             Met::Over => {
-                self.state = State::Ended;
-                Ok(Event::Over)
+                let event = self.end()?;
+                Ok(event)
             }
             Met::Quiet => unreachable!(),
         }
     }
 
-    /// Takes the body of an async inside: its frames stand upon those of the task.
-    fn take_async(&mut self, task: Task<'a>) -> Result<(), AllocError>
-        requires { fits_part self.old (part.Async task) }
-        ensures { IfOk result (λ _. TaskTakesIn self.old self.new (part.Async task.entry)) }
+    /// Nothing is left to run. Where the task itself ended in a fault, it gives it first.
+    fn end(&mut self) -> Result<Event<Task<'a>>, AllocError>
+        requires { self.old.state ≡ state.Ready }
+        ensures code { self.new.code ≡ self.old.code }
+        ensures kind { self.new.kind ≡ self.old.kind }
+        ensures gave { IfOk result (λ event. EndGives self.old self.new event) }
     {
-        if task.machine.level.frames.is_empty() {
-            return Ok(());
-        }
-        let Task { machine, .. } = task;
-        let Machine { level, .. } = machine;
-        let Level {
-            flow,
-            vars,
-            mut frames,
-        } = level;
-        let saved = mem::replace(&mut self.machine.level.vars, vars);
-        self.machine.level.flow = flow;
-        self.machine.level.frames.push(Frame::Async { saved })?;
-        self.machine.level.frames.append(&mut frames)?;
-        Ok(())
-    }
-
-    /// Opens the finish that it waits for inside. The body that was given out is let go.
-    fn take_finish(&mut self, kind: FinishKind, task: Task<'a>) -> Result<(), AllocError>
-        requires { fits_part self.old (part.Finish kind task) }
-        ensures { IfOk result (λ _. TaskTakesIn self.old self.new (part.Finish kind task.entry)) }
-    {
-        drop(task);
-        match mem::replace(&mut self.state, State::Ready) {
-            State::Waits(finish) => {
-                self.machine.open(finish)?;
-                Ok(())
+        match mem::replace(&mut self.machine.level.flow, Flow::Fell) {
+            Flow::Fault(code) => {
+                // No code of a program is that.
+                if code == NO_FAULT {
+                    return Err(AllocError);
+                }
+                Ok(Event::Fault(code))
             }
-            _ => Ok(()),
-        }
-    }
-
-    /// Takes a part inside.
-    pub(crate) fn take(&mut self, part: Part<Task<'a>>) -> Result<(), AllocError>
-        requires { fits_part self.old part }
-        ensures { IfOk result (λ _. TaskTakesIn self.old self.new part.entry) }
-    {
-        match part {
-            Part::Async(task) => {
-                self.take_async(task)?;
-                Ok(())
+            Flow::Back(_) => {
+                self.state = State::Ended;
+                Ok(Event::Over)
             }
-            Part::Finish(kind, task) => {
-                self.take_finish(kind, task)?;
-                Ok(())
+            Flow::Fell => {
+                self.state = State::Ended;
+                Ok(Event::Over)
             }
         }
     }

@@ -1,5 +1,5 @@
 use Rattle.std.proofs.Common.{sym, subst}
-use Rattle.spd_task.specs.Dag.{MayRun}
+use Rattle.spd_region.specs.Dag.{MayRun}
 use Rattle.spd_script.specs.declared.script.Script.{Script}
 use Rattle.spd_script.specs.Scripts.{script_view}
 use Rattle.spd_script.proofs.Events.{fresh_may_run}

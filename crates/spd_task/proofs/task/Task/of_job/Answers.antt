@@ -1,9 +1,22 @@
-use Rattle.spd_elide.specs.Eval.{no_calls}
-use Rattle.spd_task.proofs.Tame.{task_tame}
-use Rattle.spd_task.proofs.Events.{is_ready}
+use Rattle.std.proofs.Common.{◌∙◌, refl, ap, List}
+use Rattle.spd_meaning.specs.Eval.{for_finish}
+use Rattle.spd_code.specs.Coded.{context_of}
+use Rattle.spd_machine.specs.Machine.{insides_left}
+use Rattle.spd_level.specs.Left.{level_eval}
+use Rattle.spd_machine.specs.declared.machine.Inside.{Inside}
+use Rattle.spd_task.specs.declared.task.State.TheVariants as state
+use Rattle.spd_task.specs.declared.task.Task.{Task}
+use Rattle.spd_task.proofs.Views.{job_tame}
 use Rattle.spd_task.proofs.task.Task.of_job.Goals as goal
 
 pub returns-clause-tame : goal.returns-clause-tame
 returns-clause-tame c =
-    let r = is_ready no_calls c.args.job.kind c.in_ok-task.task c.in_ok-task.ensures.kind c.in_ok-task.ensures.whole in
-    task_tame no_calls c.in_ok-task.task r.awaited c.in_ok-task.ensures.fault
+    let x = context_of c.args.code.now in
+    let t : Task = record {
+      code = c.args.code;
+      kind = c.args.job.kind;
+      machine = record { level = c.in_ok-level.level; inside = c.new.result };
+      state = state.Ready;
+    } in
+    job_tame t c.args.job.body refl (ap (λ (is : List Inside). for_finish (insides_left x is (level_eval x c.in_ok-level.level))) c.new.ensures.items
+    ∙ c.in_ok-level.ensures.left c.args.code.now)

@@ -1,54 +1,82 @@
-use Rattle.std.proofs.Common.{rules, FitsSigned, w64, ap, arith, refl}
+use Rattle.std.proofs.Common.{◌<◌, refl, rules, arith, w64, FitsSigned}
 use Rattle.std.proofs.lemmas.Int.{to_z-of_z}
-use Rattle.spd_words.specs.declared.event.Event.TheVariants as event
-use Rattle.spd_elide.specs.Eval.{no_calls}
-use Rattle.spd_task.specs.Task.{view_of}
-use Rattle.spd_task.proofs.Events.{begun_advances, is_ready, goes_offer, goes_held, goes_async, goes_finish}
+use Rattle.spd_words.specs.Gift.{no_fault}
+use Rattle.spd_machine.specs.Machine.{machine_frames, machine_eval}
+use Rattle.spd_machine.specs.declared.machine.Met.TheVariants as met
+use Rattle.spd_task.specs.declared.task.State.TheVariants as state
+use Rattle.spd_task.specs.declared.task.Task.{Task}
+use Rattle.spd_task.specs.Task.{context_in, left_of, IsFreshTask}
+use Rattle.spd_task.proofs.Events.{moved_from, gave_offer, gave_fault, gave_held, gave_async, gave_finish}
 use Rattle.spd_task.proofs.task.Task.step.Goals as goal
 
-pub returns-in-Offer-clause-step : goal.returns-in-Offer-clause-step
-returns-in-Offer-clause-step c =
+pub returns-in-Offer-clause-gave : goal.returns-in-Offer-clause-gave
+returns-in-Offer-clause-gave c =
+    let o = c.args.self.now in
+    let b = c.begin.new.self in
+    let e = c.in_ok-begin.ensures in
+    let n : Task = record { code = b.code; kind = b.kind; machine = c.run.new.self; state = b.state } in
     let f : FitsSigned w64 c.in-Offer.x = search rules in
+    let h = moved_from (context_in b) (left_of o) (machine_eval (context_in b) b.machine) (machine_frames o.machine) (machine_frames b.machine)
+    c.run.new.self (met.Offer c.in-Offer.x) e.left e.frames (rw c.in-Offer.is at c.in_ok-x.ensures.goes) in
+    rw (to_z-of_z w64 c.in-Offer.x f) (gave_offer o n (left_of o) (machine_frames o.machine) e.code e.kind c.in-Offer.x e.ready h)
+
+pub returns-else-code-clause-gave : goal.returns-else-code-clause-gave
+returns-else-code-clause-gave c =
+    let o = c.args.self.now in
     let b = c.begin.new.self in
     let e = c.in_ok-begin.ensures in
-    let h = rw c.in-Offer.is at c.in_ok-met.ensures in
-    rw (e.ready, to_z-of_z w64 c.in-Offer.x f) (begun_advances no_calls c.args.self.now b _ (event.Offer c.in-Offer.x) e.kind e.going e.left e.weight (goes_offer no_calls b.kind b.machine c.run.new.self c.in-Offer.x h))
+    let n : Task = record { code = b.code; kind = b.kind; machine = c.run.new.self; state = b.state } in
+    let l : c.in-Fault.code < no_fault = search (rules, arith) in
+    let h = moved_from (context_in b) (left_of o) (machine_eval (context_in b) b.machine) (machine_frames o.machine) (machine_frames b.machine)
+    c.run.new.self (met.Fault c.in-Fault.code) e.left e.frames (rw c.in-Fault.is at c.in_ok-x.ensures.goes) in
+    gave_fault o n (left_of o) (machine_frames o.machine) e.code e.kind c.in-Fault.code l e.ready h
 
-pub returns-in-Held-clause-step : goal.returns-in-Held-clause-step
-returns-in-Held-clause-step c =
+pub returns-in-Held-clause-gave : goal.returns-in-Held-clause-gave
+returns-in-Held-clause-gave c =
+    let o = c.args.self.now in
     let b = c.begin.new.self in
     let e = c.in_ok-begin.ensures in
-    let k = c.nothing-nothing.ensures in
-    let h = rw c.in-Held.is at c.in_ok-met.ensures in
-    let v = view_of c.nothing-nothing.result in
-    rw e.ready (begun_advances no_calls c.args.self.now b _ (event.Async v) e.kind e.going e.left e.weight
-    (goes_held no_calls b.kind b.machine c.run.new.self v h (is_ready no_calls b.kind c.nothing-nothing.result k.kind k.whole) k.promise k.size))
+    let n : Task = record { code = b.code; kind = b.kind; machine = c.run.new.self; state = b.state } in
+    let h = moved_from (context_in b) (left_of o) (machine_eval (context_in b) b.machine) (machine_frames o.machine) (machine_frames b.machine)
+    c.run.new.self met.Held e.left e.frames (rw c.in-Held.is at c.in_ok-x.ensures.goes) in
+    let k = c.nothing.ensures in
+    gave_held o n (left_of o) (machine_frames o.machine) e.code e.kind c.nothing.result e.ready k.fresh k.kind k.frames k.vars h
 
-pub returns-in_ok-child-in-Async-clause-step : goal.returns-in_ok-child-in-Async-clause-step
-returns-in_ok-child-in-Async-clause-step c =
+pub returns-in_ok-child-in-Async-clause-gave : goal.returns-in_ok-child-in-Async-clause-gave
+returns-in_ok-child-in-Async-clause-gave c =
+    let o = c.args.self.now in
     let b = c.begin.new.self in
     let e = c.in_ok-begin.ensures in
-    let k = rw c.in_ok-vars-in-Async.ensures at c.in_ok-child-in-Async.ensures in
-    let h = rw c.in-Async.is at c.in_ok-met.ensures in
-    let v = view_of c.in_ok-child-in-Async.child in
-    rw e.ready (begun_advances no_calls c.args.self.now b _ (event.Async v) e.kind e.going e.left e.weight
-    (goes_async no_calls b.kind b.machine c.run.new.self c.in-Async.body v h (is_ready no_calls b.kind c.in_ok-child-in-Async.child k.kind k.whole) k.runs))
+    let n : Task = record { code = b.code; kind = b.kind; machine = c.run.new.self; state = b.state } in
+    let h = moved_from (context_in b) (left_of o) (machine_eval (context_in b) b.machine) (machine_frames o.machine) (machine_frames b.machine)
+    c.run.new.self (met.Async c.in-Async.body c.in-Async.left) e.left e.frames (rw c.in-Async.is at c.in_ok-x.ensures.goes) in
+    let k = c.in_ok-child-in-Async.ensures in
+    gave_async o n (left_of o) (machine_frames o.machine)
+    e.code e.kind c.in_ok-child-in-Async.child c.in-Async.body c.in-Async.left e.ready k.fresh k.kind k.vars k.frames h
 
-pub returns-in_ok-child-in-Finish-clause-step : goal.returns-in_ok-child-in-Finish-clause-step
-returns-in_ok-child-in-Finish-clause-step c =
+pub returns-in_ok-child-in-Finish-clause-gave : goal.returns-in_ok-child-in-Finish-clause-gave
+returns-in_ok-child-in-Finish-clause-gave c =
+    let o = c.args.self.now in
     let b = c.begin.new.self in
-    let f = c.in-Finish.finish in
     let e = c.in_ok-begin.ensures in
-    let k = rw c.in_ok-vars-in-Finish.ensures at c.in_ok-child-in-Finish.ensures in
-    let h = rw c.in-Finish.is at c.in_ok-met.ensures in
-    let v = view_of c.in_ok-child-in-Finish.child in
-    begun_advances no_calls c.args.self.now b _ (event.Finish f.kind v) e.kind e.going e.left e.weight
-    (goes_finish no_calls b.kind b.machine c.run.new.self f v h (is_ready no_calls f.kind c.in_ok-child-in-Finish.child k.kind k.whole) k.runs)
+    let n : Task = record { code = b.code; kind = b.kind; machine = c.run.new.self; state = state.Waits c.in-Finish.finish } in
+    let h = moved_from (context_in b) (left_of o) (machine_eval (context_in b) b.machine) (machine_frames o.machine) (machine_frames b.machine)
+    c.run.new.self (met.Finish c.in-Finish.finish) e.left e.frames (rw c.in-Finish.is at c.in_ok-x.ensures.goes) in
+    let k = c.in_ok-child-in-Finish.ensures in
+    let r : IsFreshTask n c.in_ok-child-in-Finish.child = record {
+      code = k.fresh.code;
+      state = k.fresh.state;
+      inside = k.fresh.inside;
+      falls_through =
+          k.fresh.falls_through;
+    } in
+    gave_finish o n (left_of o) (machine_frames o.machine) e.code e.kind c.in_ok-child-in-Finish.child c.in-Finish.finish refl r k.kind k.vars k.frames h
 
-pub returns-in_ok-child-in-Async-clause-over : goal.returns-in_ok-child-in-Async-clause-over
-returns-in_ok-child-in-Async-clause-over c h =
-    let q = ap (λ p. p.moves) ((returns-in_ok-child-in-Async-clause-step c).split refl) in let z = h.2 in omega arith
-
-pub returns-in_ok-child-in-Finish-clause-over : goal.returns-in_ok-child-in-Finish-clause-over
-returns-in_ok-child-in-Finish-clause-over c h =
-    let q = ap (λ p. p.moves) ((returns-in_ok-child-in-Finish-clause-step c).split refl) in let z = h.2 in omega arith
+pub returns-in_ok-event-in-Over-clause-gave : goal.returns-in_ok-event-in-Over-clause-gave
+returns-in_ok-event-in-Over-clause-gave c =
+    let o = c.args.self.now in
+    let b = c.begin.new.self in
+    let e = c.in_ok-begin.ensures in
+    c.in_ok-event-in-Over.ensures.gave o (left_of o) (machine_frames o.machine) e.code e.kind
+    (moved_from (context_in b) (left_of o) (machine_eval (context_in b) b.machine) (machine_frames o.machine) (machine_frames b.machine)
+    c.run.new.self met.Over e.left e.frames (rw c.in-Over.is at c.in_ok-x.ensures.goes))

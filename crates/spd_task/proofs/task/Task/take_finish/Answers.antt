@@ -1,17 +1,27 @@
-use Rattle.std.proofs.Common.{refl, sym}
-use Rattle.spd_elide.specs.Eval.{no_calls}
-use Rattle.spd_task.specs.declared.task.Task.{Task}
+use Rattle.std.proofs.Common.{◌≡◌, ◌∙◌, ◌+◌, refl, sym, ap, subst, rules, length}
+use Rattle.spd_words.specs.declared.finish_kind.FinishKind.{FinishKind}
+use Rattle.spd_task.specs.TaskEvents.{TaskTakesIn}
+use Rattle.spd_words.specs.declared.event.Part.TheVariants as part
+use Rattle.spd_machine.specs.Machine.{machine_frames}
+use Rattle.spd_task.specs.declared.task.State.{State}
 use Rattle.spd_task.specs.declared.task.State.TheVariants as state
-use Rattle.spd_task.specs.Task.{FitsFinish, view_of}
-use Rattle.spd_task.proofs.Taken.{takes_finish}
+use Rattle.spd_task.specs.declared.task.Task.{Task}
+use Rattle.spd_task.specs.Task.{fits_task, RunsBlock}
+use Rattle.spd_task.proofs.Taken.{finish_taken}
 use Rattle.spd_task.proofs.task.Task.take_finish.Goals as goal
 
-pub returns-in_ok-open-in-Waits : goal.returns-in_ok-open-in-Waits
-returns-in_ok-open-in-Waits c =
-    let s = sym c.in-Waits.ensures.value in
+pub returns-in_ok-take-in-Waits : goal.returns-in_ok-take-in-Waits
+returns-in_ok-take-in-Waits c =
+    let o = c.args.self.now in
+    let b = c.args.task in
     let f = c.in-Waits.finish in
-    let t : Task = c.args.self.now in
-    let h0 : FitsFinish no_calls t.state c.args.kind t.machine (view_of c.args.task) = c.requires in
-    let h : FitsFinish no_calls (state.Waits f) c.args.kind t.machine (view_of c.args.task) = rw s at h0 in
-    let n : Task = record { kind = t.kind; machine = c.open.new.self; state = c.replace.new.dest } in
-    rw h.0 (takes_finish no_calls t n c.args.task f s refl c.replace.ensures.after h.1 c.in_ok-open-in-Waits.ensures.left c.in_ok-open-in-Waits.ensures.frames)
+    let n : Task = record { code = o.code; kind = o.kind; machine = c.take.new.self; state = c.replace.new.dest } in
+    let s : o.state ≡ state.Waits f = search rules in
+    let ns : c.replace.new.dest ≡ state.Ready = search rules in
+    let r = c.requires in
+    let blk = subst (λ (st : State). RunsBlock st c.args.kind o.machine b) s r.2 in
+    let fits = subst (λ (k : FinishKind). fits_task o (part.Finish k b)) blk.0 r in
+    let w = c.in_ok-take-in-Waits.ensures.frames ∙ ap (λ fs. machine_frames o.machine + (length fs + 1)) blk.2 in
+    let l = c.in_ok-take-in-Waits.ensures.left o.code.now f.body f.left r.0.falls_through blk.1 blk.2 in
+    subst (λ (k : FinishKind). TaskTakesIn o n (part.Finish k b)) (sym blk.0)
+    (finish_taken o n b f fits s refl refl ns w l)

@@ -1,0 +1,147 @@
+// A level, its beginnings, and its turns.
+
+ghost use Rattle.std.specs.Prelude.{◌≡◌, ℕ, ◌+◌, ◌∷◌, [], IfOk, length};
+ghost use Rattle.spd_code.specs.declared.tree.CodeTree.{CodeTree};
+ghost use Rattle.spd_code.specs.Coded.{context_of};
+ghost use Rattle.spd_level.specs.Left.{level_eval, item_job};
+ghost use Rattle.spd_level.specs.Turn.{FrameTurn, WholeTurn};
+ghost use Rattle.spd_level.specs.declared.frame.Flow.TheVariants as flow;
+ghost use Rattle.spd_level.specs.declared.frame.Frame.TheVariants as frame;
+
+use crate::calls::fit;
+use crate::frame::{Flow, Frame};
+use crate::step::Step;
+use spd_code::{CodeBlock, CodeItem, CodeTree};
+use std::alloc::AllocError;
+
+/// Statements under way that offer to one finish.
+#[derive(Drop)]
+pub struct Level<'a> {
+    pub flow: Flow,
+    /// The values of the visible names.
+    pub vars: Vec<i64>,
+    /// The frames, the innermost last.
+    pub frames: Vec<Frame<'a>>,
+}
+
+impl<'a> Level<'a> {
+    /// A block over these values, in which so many more calls may be opened.
+    pub fn of_block(
+        block: &'a CodeBlock,
+        left: u32,
+        vars: Vec<i64>,
+    ) -> Result<Level<'a>, AllocError>
+        ensures flow { IfOk result (λ level. level.flow ≡ flow.Fell) }
+        ensures vars { IfOk result (λ level. level.vars.items ≡ vars.items) }
+        ensures frames { IfOk result (λ level. level.frames.items ≡ frame.Block block.entry 0 0 left ∷ []) }
+    {
+        let mut frames = Vec::new(*vars.allocator());
+        frames.push(Frame::Block {
+            block,
+            next: 0,
+            floor: 0,
+            left,
+        })?;
+        Ok(Level {
+            flow: Flow::Fell,
+            vars,
+            frames,
+        })
+    }
+
+    /// A function over these arguments, in which so many more calls may be opened. What comes back
+    /// is offered.
+    pub fn of_call(item: &'a CodeItem, left: u32, args: Vec<i64>) -> Result<Level<'a>, AllocError>
+        ensures frames { IfOk result (λ level. length level.frames.items ≡ 2) }
+        ensures left { (code : CodeTree) → IfOk result (λ level.
+            level_eval (context_of code) level ≡ item_job (context_of code) left item.now args.items) }
+    {
+        let vars = fit(args, item.params)?;
+        let mut frames = Vec::new(*vars.allocator());
+        frames.push(Frame::Gift)?;
+        frames.push(Frame::Block {
+            block: &item.body,
+            next: 0,
+            floor: 0,
+            left,
+        })?;
+        Ok(Level {
+            flow: Flow::Fell,
+            vars,
+            frames,
+        })
+    }
+
+    /// One turn: a statement, a turn of a loop, or a frame that is taken off. What was left of the
+    /// level is what the turn gives, and then what is left behind what it met.
+    pub fn turn(&mut self, code: &'a CodeTree) -> Result<Step<'a>, AllocError>
+        ensures { IfOk result (λ step. WholeTurn code.now self.old self.new step) }
+    {
+        match self.frames.pop() {
+            None => Ok(Step::Over),
+            Some(
+                Frame::Block {
+                    block,
+                    next,
+                    floor,
+                    left,
+                },
+            ) => match self.flow {
+                Flow::Fell => {
+                    let step = self.next_of(code, block, next, floor, left)?;
+                    Ok(step)
+                }
+                Flow::Back(_) => Ok(Step::Quiet),
+                Flow::Fault(_) => Ok(Step::Quiet),
+            },
+            Some(
+                Frame::For {
+                    body,
+                    at,
+                    end,
+                    left,
+                },
+            ) => match self.flow {
+                Flow::Fell => {
+                    self.turn_of(body, at, end, left)?;
+                    Ok(Step::Quiet)
+                }
+                Flow::Back(_) => Ok(Step::Quiet),
+                Flow::Fault(_) => Ok(Step::Quiet),
+            },
+            Some(Frame::Async { saved }) => Ok(self.leave(saved)),
+            Some(Frame::Call { saved, binds }) => {
+                self.come_back(saved, binds)?;
+                Ok(Step::Quiet)
+            }
+            Some(Frame::Gift) => Ok(self.give()),
+        }
+    }
+
+    /// The next statement of a block, or its end.
+    fn next_of(
+        &mut self,
+        code: &'a CodeTree,
+        block: &'a CodeBlock,
+        next: u32,
+        floor: usize,
+        left: u32,
+    ) -> Result<Step<'a>, AllocError>
+        requires { self.old.flow ≡ flow.Fell }
+        ensures { IfOk result (λ step.
+            FrameTurn code.now (frame.Block block.entry next floor left) self.old self.new step) }
+    {
+        if next >= block.stmts.len() {
+            self.vars.truncate(floor);
+            return Ok(Step::Quiet);
+        }
+        self.frames.push(Frame::Block {
+            block,
+            next: next + 1,
+            floor,
+            left,
+        })?;
+        let step = self.statement(code, block.stmts.get(next), left)?;
+        Ok(step)
+    }
+}

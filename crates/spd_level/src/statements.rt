@@ -1,0 +1,179 @@
+// Statements: each by the row of the language's table that it has.
+
+ghost use Rattle.std.specs.Prelude.{◌≡◌, ◌∷◌, [], true, IfOk, map};
+ghost use Rattle.spd_meaning.specs.Acts.{Offer, Line};
+ghost use Rattle.spd_meaning.specs.Eval.{Fell, Back, quiet, before, with_value, with_line};
+ghost use Rattle.spd_meaning.specs.Values.{all_texts};
+ghost use Rattle.spd_meaning.specs.Meaning.{collecting};
+ghost use Rattle.spd_code.specs.Coded.{code_value, code_part_value, context_of, around_of, eval_stmt};
+ghost use Rattle.spd_level.specs.Found.{bare};
+ghost use Rattle.spd_code.specs.Places.{bind_if, put_at};
+ghost use Rattle.spd_level.specs.Turn.{StatementDone, StatementTurn};
+ghost use Rattle.spd_level.specs.declared.frame.Flow.TheVariants as flow;
+ghost use Rattle.spd_level.specs.declared.step.Step.TheVariants as step;
+
+use crate::frame::Flow;
+use crate::level::Level;
+use crate::step::{FinishAt, Step};
+use crate::text::text_of;
+use crate::value::value_of;
+use spd_code::{CodeExpr, CodeParts, CodeStmt, CodeStmtKind, CodeTree};
+use spd_syntax::Collect;
+use spd_words::FinishKind;
+use std::alloc::AllocError;
+
+impl<'a> Level<'a> {
+    /// One statement, where so many more calls may be opened.
+    pub(crate) fn statement(
+        &mut self,
+        code: &'a CodeTree,
+        stmt: &'a CodeStmt,
+        left: u32,
+    ) -> Result<Step<'a>, AllocError>
+        requires { self.old.flow ≡ flow.Fell }
+        ensures { IfOk result (λ step. StatementTurn code.now self.old self.new step
+            (eval_stmt (around_of (context_of code.now) left) stmt.now self.old.vars.items)) }
+    {
+        match &stmt.what {
+            CodeStmtKind::Let { value } => {
+                self.bind(value, stmt.line)?;
+                Ok(Step::Quiet)
+            }
+            CodeStmtKind::LetCall { callee, args } => {
+                let step = self.call(&code.functions, *callee, args, true, stmt.line, left)?;
+                Ok(step)
+            }
+            CodeStmtKind::LetFinish { kind, body } => Ok(Step::Finish(FinishAt {
+                kind: kind_of(*kind),
+                binds: true,
+                line: stmt.line,
+                left,
+                body,
+            })),
+            CodeStmtKind::Assign { place, value } => {
+                self.assign(*place, value, stmt.line);
+                Ok(Step::Quiet)
+            }
+            CodeStmtKind::If { cond, yes, no } => {
+                self.choose(cond, yes, no, stmt.line, left)?;
+                Ok(Step::Quiet)
+            }
+            CodeStmtKind::For { from, to, body } => {
+                self.begin_for(from, to, body, stmt.line, left)?;
+                Ok(Step::Quiet)
+            }
+            CodeStmtKind::Async { body } => Ok(Step::Async { body, left }),
+            CodeStmtKind::Finish { body } => Ok(Step::Finish(FinishAt {
+                kind: FinishKind::Plain,
+                binds: false,
+                line: stmt.line,
+                left,
+                body,
+            })),
+            CodeStmtKind::Offer { value } => Ok(self.offer(value, stmt.line)),
+            CodeStmtKind::Run { callee, args } => {
+                let step = self.call(&code.tasks, *callee, args, false, stmt.line, left)?;
+                Ok(step)
+            }
+            CodeStmtKind::Return { value } => {
+                self.give_back(value, stmt.line);
+                Ok(Step::Quiet)
+            }
+            CodeStmtKind::Print { parts } => {
+                let step = self.print(parts, stmt.line)?;
+                Ok(step)
+            }
+        }
+    }
+
+    /// Binds a new name to a value.
+    fn bind(&mut self, expr: &CodeExpr, line: u32) -> Result<(), AllocError>
+        requires { self.old.flow ≡ flow.Fell }
+        ensures { IfOk result (λ _. StatementDone self.old self.new step.Quiet
+            (with_value (code_value bare expr.now self.old.vars.items line)
+            (λ v. quiet (Fell (bind_if true self.old.vars.items v))))) }
+    {
+        match value_of(expr, self.vars.as_slice(), line) {
+            Ok(value) => self.vars.push(value)?,
+            Err(code) => self.flow = Flow::Fault(code),
+        }
+        Ok(())
+    }
+
+    /// Gives the name at a place a new value.
+    fn assign(&mut self, place: u32, expr: &CodeExpr, line: u32)
+        requires { self.old.flow ≡ flow.Fell }
+        ensures { StatementDone self.old self.new step.Quiet
+            (with_value (code_value bare expr.now self.old.vars.items line)
+            (λ v. quiet (Fell (put_at self.old.vars.items place v)))) }
+    {
+        match value_of(expr, self.vars.as_slice(), line) {
+            Ok(value) => {
+                if (place as usize) < self.vars.len() {
+                    self.vars[place as usize] = value;
+                }
+            }
+            Err(code) => self.flow = Flow::Fault(code),
+        }
+    }
+
+    /// A `return`: what stands behind it up to the end of the call is passed over.
+    fn give_back(&mut self, expr: &CodeExpr, line: u32)
+        requires { self.old.flow ≡ flow.Fell }
+        ensures { StatementDone self.old self.new step.Quiet
+            (with_value (code_value bare expr.now self.old.vars.items line) (λ v. quiet (Back v))) }
+    {
+        self.flow = match value_of(expr, self.vars.as_slice(), line) {
+            Ok(value) => Flow::Back(value),
+            Err(code) => Flow::Fault(code),
+        };
+    }
+
+    /// An offer to the finish around it.
+    fn offer(&mut self, expr: &CodeExpr, line: u32) -> Step<'a>
+        requires { self.old.flow ≡ flow.Fell }
+        ensures { StatementDone self.old self.new result
+            (with_value (code_value bare expr.now self.old.vars.items line)
+            (λ v. before (Offer v ∷ []) (quiet (Fell self.old.vars.items)))) }
+    {
+        match value_of(expr, self.vars.as_slice(), line) {
+            Ok(value) => Step::Offer(value),
+            Err(code) => {
+                self.flow = Flow::Fault(code);
+                Step::Quiet
+            }
+        }
+    }
+
+    /// A print: all its parts are evaluated before anything is written.
+    fn print(&mut self, parts: &CodeParts, line: u32) -> Result<Step<'a>, AllocError>
+        requires { self.old.flow ≡ flow.Fell }
+        ensures { IfOk result (λ step. StatementDone self.old self.new step
+            (with_line (all_texts (map (λ p. code_part_value bare p self.old.vars.items line) parts.now))
+            (λ text. before (Line text ∷ []) (quiet (Fell self.old.vars.items))))) }
+    {
+        match text_of(
+            *self.vars.allocator(),
+            parts.as_slice(),
+            self.vars.as_slice(),
+            line,
+        )? {
+            Ok(text) => Ok(Step::Line(text)),
+            Err(code) => {
+                self.flow = Flow::Fault(code);
+                Ok(Step::Quiet)
+            }
+        }
+    }
+}
+
+/// The kind of a finish that collects so.
+pub fn kind_of(collect: Collect) -> FinishKind
+    ensures { result ≡ collecting collect }
+{
+    match collect {
+        Collect::Sum => FinishKind::Sum,
+        Collect::Least => FinishKind::Least,
+        Collect::Greatest => FinishKind::Greatest,
+    }
+}

@@ -1,0 +1,2 @@
+pub mod Dag
+pub mod DagSteps
