@@ -31,10 +31,10 @@ alike_before names p a b h = record { same = ap (before p) h.same; behind = h.be
 
 -- ---- ends of blocks, and loops
 
-cut_shows : (n : ℕ) (names all : Names) (e : End Entry) → take n all ≡ names → EndsWith all e → EndsWith names (cut_end n e)
-cut_shows n names all (Fell env) t s = taken_names n env ∙ ap (take n) s ∙ t
-cut_shows n names all (Back v) t s = tt
-cut_shows n names all (Fault c) t s = tt
+cut_ends_with : (n : ℕ) (names all : Names) (e : End Entry) → take n all ≡ names → EndsWith all e → EndsWith names (cut_end n e)
+cut_ends_with n names all (Fell env) t s = taken_names n env ∙ ap (take n) s ∙ t
+cut_ends_with n names all (Back v) t s = tt
+cut_ends_with n names all (Fault c) t s = tt
 
 cut_valued : (n : ℕ) (e : End Entry) → cut_end n (valued_end e) ≡ valued_end (cut_end n e)
 cut_valued n (Fell env) = ap Fell (sym (taken n env))
@@ -46,7 +46,7 @@ pub alike_cut : (env : Env) (more : Names) (a : Eval Entry) (b : Eval ℤ) → A
 alike_cut env more a b h = record {
   same = ap (λ n. cut n b) (as_many env) ∙ ap (cut (length env)) h.same
       ∙ ap (λ (e : End ℤ). record { end = e; given = a.given }) (cut_valued (length env) a.end);
-  behind = cut_shows (length env) (names_of env) (names_of env ++ more) a.end (cut_back env more) h.behind;
+  behind = cut_ends_with (length env) (names_of env) (names_of env ++ more) a.end (cut_back env more) h.behind;
 }
 
 pub alike_turns : (names more : Names) (n : ℕ) (at : ℤ) (f : ℤ → Env → Eval Entry) (g : ℤ → List ℤ → Eval ℤ) →
@@ -79,8 +79,9 @@ end_valued line f g total h = elim (total.fault == no_fault) as (λ t. (if t the
     ≡ valued_end (if t then Fell (f total.gift) else Fault (at_line line total.fault)))
     [ true ↦ ap Fell (sym (h total.gift)) | false ↦ refl ]
 
-end_shows : (names : Names) (line : ℕ) (f : ℤ → Env) (total : Total) → ((v : ℤ) → names_of (f v) ≡ names) → EndsWith names (finish_end line f total)
-end_shows names line f total h = elim (total.fault == no_fault) as (λ t. EndsWith names (if t then Fell (f total.gift) else Fault (at_line line total.fault)))
+end_ends_with : (names : Names) (line : ℕ) (f : ℤ → Env) (total : Total) → ((v : ℤ) → names_of (f v) ≡ names) → EndsWith names (finish_end line f total)
+end_ends_with names line f total h = elim (total.fault == no_fault)
+    as (λ t. EndsWith names (if t then Fell (f total.gift) else Fault (at_line line total.fault)))
     [ true ↦ h total.gift | false ↦ tt ]
 
 pub alike_finish : (names : Names) (kind : FinishKind) (line : ℕ) (f : ℤ → Env) (g : ℤ → List ℤ) (a : Eval Entry) (b : Eval ℤ) →
@@ -93,22 +94,22 @@ alike_finish names kind line f g a b n v e = record {
       })) (codes_valued a.end)
       ∙ ap (λ (z : End ℤ). before (Begin Finish ∷ []) (record { end = z; given = passed a.given ++ Over ∷ [] }))
       (end_valued line f g (settle (collected kind (nothing kind) (for_finish a))) v);
-  behind = end_shows names line f (settle (collected kind (nothing kind) (for_finish a))) n;
+  behind = end_ends_with names line f (settle (collected kind (nothing kind) (for_finish a))) n;
 }
 
 call_valued : (f : ℤ → Env) (g : ℤ → List ℤ) (r : Result ℤ ℕ) → ((v : ℤ) → values_of (f v) ≡ g v) → call_end g r ≡ valued_end (call_end f r)
 call_valued f g (Ok v) h = ap Fell (sym (h v))
 call_valued f g (Err c) h = refl
 
-call_shows : (names : Names) (f : ℤ → Env) (r : Result ℤ ℕ) → ((v : ℤ) → names_of (f v) ≡ names) → EndsWith names (call_end f r)
-call_shows names f (Ok v) h = h v
-call_shows names f (Err c) h = tt
+call_ends_with : (names : Names) (f : ℤ → Env) (r : Result ℤ ℕ) → ((v : ℤ) → names_of (f v) ≡ names) → EndsWith names (call_end f r)
+call_ends_with names f (Ok v) h = h v
+call_ends_with names f (Err c) h = tt
 
 pub alike_call : (names : Names) (f : ℤ → Env) (g : ℤ → List ℤ) (r : Returned) → ((v : ℤ) → names_of (f v) ≡ names) → ((v : ℤ) → values_of (f v) ≡ g v) →
     Alike names (call_of f r) (call_of g r)
 alike_call names f g r n v = record {
   same = ap (λ (z : End ℤ). before (Begin Call ∷ []) (record { end = z; given = r.given ++ Over ∷ [] })) (call_valued f g r.value v);
-  behind = call_shows names f r.value n;
+  behind = call_ends_with names f r.value n;
 }
 
 back_valued : (e : End Entry) → value_back (valued_end e) ≡ value_back e

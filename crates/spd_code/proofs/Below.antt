@@ -20,8 +20,8 @@ use Rattle.spd_code.proofs.Laws.{Law, FaultsLaw, guarded_block, block_law, calls
 
 -- ---- ends
 
-abbrev IsCode : ℕ → Type 0
-IsCode code = code < no_fault
+abbrev IsFaultCode : ℕ → Type 0
+IsFaultCode code = code < no_fault
 
 abbrev EndsBelow : {A : Type 0} → End A → Type 0
 EndsBelow (Fell vars) = Unit {0}
@@ -52,12 +52,12 @@ finish_below line h t l = told (eqb_tells t.fault no_fault)
 finish_of_below : (k : FinishKind) (line : ℕ) (h : ℤ → List ℤ) (a : Eval ℤ) → Below (finish_of k line h a)
 finish_of_below k line h a = finish_below line h (settle (collected k (nothing k) (for_finish a))) (omega arith)
 
-back_below : (e : End ℤ) → EndsBelow e → OnFault IsCode (value_back e)
+back_below : (e : End ℤ) → EndsBelow e → OnFault IsFaultCode (value_back e)
 back_below (Fell vars) h = tt
 back_below (Back v) h = tt
 back_below (Fault c) h = h
 
-called_below : (h : ℤ → List ℤ) (v : Result ℤ ℕ) → OnFault IsCode v → EndsBelow (call_end h v)
+called_below : (h : ℤ → List ℤ) (v : Result ℤ ℕ) → OnFault IsFaultCode v → EndsBelow (call_end h v)
 called_below h (Ok v) n = tt
 called_below h (Err c) n = n
 
@@ -65,11 +65,11 @@ fits_so : (line : ℕ) → fits_line line ≡ true → line < 4294967296
 fits_so line e = ltb-true line 4294967296 e
 
 abbrev ReturnsBelow : Returned → Type 0
-ReturnsBelow r = OnFault IsCode r.value
+ReturnsBelow r = OnFault IsFaultCode r.value
 
 -- ---- the law
 
-below_law : Law lined_step fits_line IsCode Below ReturnsBelow
+below_law : Law lined_step fits_line IsFaultCode Below ReturnsBelow
 below_law = record {
   fell = λ vars. tt;
   back = λ value. tt;
@@ -91,14 +91,14 @@ below_law = record {
 line_codes : (line kind : ℕ) → fits_line line ≡ true → kind < 8 → line * 8 + kind < no_fault
 line_codes line kind l k = let n = fits_so line l in omega (arith, n, k)
 
-below_faults : FaultsLaw fits_line IsCode
+below_faults : FaultsLaw fits_line IsFaultCode
 below_faults = record {
   by_zero = λ line l. line_codes line 1 l (omega arith);
   beyond = λ line l. line_codes line 2 l (omega arith);
   deep = λ line l. line_codes line 3 l (omega arith);
 }
 
-fits_err : {A : Type 0} (r : Result A ℕ) (c : ℕ) → r ≡ Err c → OnFault IsCode r → c < no_fault
+fits_err : {A : Type 0} (r : Result A ℕ) (c : ℕ) → r ≡ Err c → OnFault IsFaultCode r → c < no_fault
 fits_err (Ok v) c e h = absurd (cc)
 fits_err (Err d) c e h = let z : d ≡ c = cc in omega (arith, h, z)
 
@@ -112,6 +112,6 @@ unfolding lined_block guarded_block
 function_below context fs ts f left args c e =
     let i = item_at context.code.functions f in
     let a = eval_block (around_of context left) i.body (fitted i.params args) in
-    let calls = calls_law lined_step fits_line IsCode Below ReturnsBelow below_law below_faults context fs (λ t es q. ts t) left in
+    let calls = calls_law lined_step fits_line IsFaultCode Below ReturnsBelow below_law below_faults context fs (λ t es q. ts t) left in
     fits_err (value_back a.end) c e (back_below a.end
-    (block_law lined_step fits_line IsCode Below ReturnsBelow below_law below_faults (around_of context left) calls i.body (fs f) (fitted i.params args)))
+    (block_law lined_step fits_line IsFaultCode Below ReturnsBelow below_law below_faults (around_of context left) calls i.body (fs f) (fitted i.params args)))

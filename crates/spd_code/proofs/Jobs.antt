@@ -10,18 +10,12 @@ use Rattle.spd_meaning.proofs.Hearing.{passed_moves}
 use Rattle.spd_meaning.proofs.Nesting.{Nested, Nests, nested_none, nested_tick, nested_offer, nested_line, nested_passed, nests_then, nests_async, nests_finish, nests_call, one_job}
 use Rattle.spd_code.specs.Places.{fitted}
 use Rattle.spd_code.specs.Coded.{Context, eval_block, around_of, item_returned}
-use Rattle.spd_code.proofs.Laws.{Law, FaultsLaw, anything, any_line, any_block, block_law, calls_law}
+use Rattle.spd_code.proofs.Laws.{Law, anything, any_line, any_block, block_law, calls_law, AnyCode, any_faults}
 
 abbrev ReturnsNested : Returned → Type 0
 ReturnsNested r = Nested r.given
 
-abbrev AnyFault : ℕ → Type 0
-AnyFault code = Unit {0}
-
-any_fault : FaultsLaw any_line AnyFault
-any_fault = record { by_zero = λ line l. tt; beyond = λ line l. tt; deep = λ line l. tt }
-
-nests_law : Law anything any_line AnyFault Nests ReturnsNested
+nests_law : Law anything any_line AnyCode Nests ReturnsNested
 nests_law = record {
   fell = λ vars. nested_none;
   back = λ value. nested_none;
@@ -42,8 +36,8 @@ nests_law = record {
 
 pub block_nests : (context : Context) (left : ℕ) (b : CodeBlock) (vars : List ℤ) → Nests (eval_block (around_of context left) b vars)
 block_nests context left b vars =
-    let calls = calls_law anything any_line AnyFault Nests ReturnsNested nests_law any_fault context (λ f. any_block _) (λ t es q. any_block _) left in
-    block_law anything any_line AnyFault Nests ReturnsNested nests_law any_fault (around_of context left) calls b (any_block b) vars
+    let calls = calls_law anything any_line AnyCode Nests ReturnsNested nests_law any_faults context (λ f. any_block _) (λ t es q. any_block _) left in
+    block_law anything any_line AnyCode Nests ReturnsNested nests_law any_faults (around_of context left) calls b (any_block b) vars
 
 -- ---- main's walk
 

@@ -244,6 +244,13 @@ anything z = true
 abbrev pub any_line : ℕ → Bool
 any_line line = true
 
+-- any code of a fault
+abbrev pub AnyCode : ℕ → Type 0
+AnyCode code = Unit {0}
+
+pub any_faults : FaultsLaw any_line AnyCode
+any_faults = record { by_zero = λ line l. tt; beyond = λ line l. tt; deep = λ line l. tt }
+
 kind_any : (k : CodeStmtKind) → guarded_kind anything any_line k ≡ true
 unfolding guarded_block guarded_stmt guarded_kind
 kind_any k = K.fold_out-CodeStmtKind Bool Bool Bool anything (guard_stmts anything any_line) (guard_line anything any_line) k

@@ -215,22 +215,15 @@ module _ (spaces : Spaces) where
             })),
       )
 
-  -- a statement without blocks
-  bare_layer : (z : s.StmtKind-F StmtKind Stmt) (names : Names) (next : ℕ) → (blocks_kind_step (source_layer z)).binds ≡ binds (layer z) →
-      length (blocks_of_kind (source_layer z) names) ≡ kind_blocks (layer z) →
-      (number_kind (numbered_layer (kind_code spaces (layer z) names next))).itself ≡ CK.roll-CodeStmtKind (kind_code spaces (layer z) names next) →
-      blocks_in_kind (numbered_layer (kind_code spaces (layer z) names next)) ≡ codes_of_blocks spaces next (blocks_of_kind (source_layer z) names) →
-      LayerFacts z names next
-  bare_layer z names next b n i bs = record { binds = b; count = n; itself = i; blocks = bs }
-
   at_layer : (y : s.StmtKind-F KindWith StmtWith) → KindHolds (K.roll-StmtKind (K.map-StmtKind KindWith StmtWith StmtKind Stmt (λ k. k.0) (λ t. t.0) y))
-  at_layer (s.Let name e) = rolled (s.Let name e) refl (λ names next. bare_layer _ names next refl refl refl refl)
-  at_layer (s.Assign name e) = rolled (s.Assign name e) refl (λ names next. bare_layer _ names next refl refl refl refl)
-  at_layer (s.LetCall name callee args) = rolled (s.LetCall name callee args) refl (λ names next. bare_layer _ names next refl refl refl refl)
-  at_layer (s.Run callee args) = rolled (s.Run callee args) refl (λ names next. bare_layer _ names next refl refl refl refl)
-  at_layer (s.Offer e) = rolled (s.Offer e) refl (λ names next. bare_layer _ names next refl refl refl refl)
-  at_layer (s.Return e) = rolled (s.Return e) refl (λ names next. bare_layer _ names next refl refl refl refl)
-  at_layer (s.Print ps) = rolled (s.Print ps) refl (λ names next. bare_layer _ names next refl refl refl refl)
+  at_layer (s.Let name e) = rolled (s.Let name e) refl (λ names next. record { binds = refl; count = refl; itself = refl; blocks = refl })
+  at_layer (s.Assign name e) = rolled (s.Assign name e) refl (λ names next. record { binds = refl; count = refl; itself = refl; blocks = refl })
+  at_layer (s.LetCall name callee args) =
+      rolled (s.LetCall name callee args) refl (λ names next. record { binds = refl; count = refl; itself = refl; blocks = refl })
+  at_layer (s.Run callee args) = rolled (s.Run callee args) refl (λ names next. record { binds = refl; count = refl; itself = refl; blocks = refl })
+  at_layer (s.Offer e) = rolled (s.Offer e) refl (λ names next. record { binds = refl; count = refl; itself = refl; blocks = refl })
+  at_layer (s.Return e) = rolled (s.Return e) refl (λ names next. record { binds = refl; count = refl; itself = refl; blocks = refl })
+  at_layer (s.Print ps) = rolled (s.Print ps) refl (λ names next. record { binds = refl; count = refl; itself = refl; blocks = refl })
   at_layer (s.Async body) = rolled (s.Async (bare body)) (ap (λ (ts : List Stmt). K.roll-StmtKind (s.Async ts)) (same_stmts body)) (λ names next. record {
     binds = refl;
     count = ap suc (count_stmts body names);
@@ -314,7 +307,8 @@ module _ (spaces : Spaces) where
             (record {
               binds = f.binds;
               count = f.count;
-              itself = ap (λ (x : NS). x.itself) n ∙ ap (λ (x : CodeStmtKind). CS.roll-CodeStmt (record { line = z.line; next_block = next; what = x })) f.itself;
+              itself = ap (λ (x : NS). x.itself) n ∙ ap (λ (x : CodeStmtKind). CS.roll-CodeStmt (record { line = z.line; next_block = next; what = x }))
+                  f.itself;
               blocks = ap (λ (x : NS). x.blocks) n ∙ f.blocks;
             })),
       )

@@ -19,7 +19,7 @@ use Rattle.spd_meaning.proofs.Hearing.{passed_offers, passed_codes, passed_lines
 use Rattle.spd_code.specs.Coded.{Context, CodeRun, eval_block, calls_of, item_at}
 use Rattle.spd_code.specs.Silent.{silent_step, silent_block}
 use Rattle.spd_code.proofs.Lists.{true_both}
-use Rattle.spd_code.proofs.Laws.{Law, FaultsLaw, CallsLaw, guarded_block, any_line, block_law, calls_law}
+use Rattle.spd_code.proofs.Laws.{Law, CallsLaw, guarded_block, any_line, block_law, calls_law, AnyCode, any_faults}
 
 pub record Silent (given : Acts) : Type 0 where
   pub offers : offers_of given ≡ []
@@ -61,13 +61,7 @@ SilentEval a = Silent a.given
 abbrev SilentReturned : Returned → Type 0
 SilentReturned r = Silent r.given
 
-abbrev AnyFault : ℕ → Type 0
-AnyFault code = Unit {0}
-
-any_fault : FaultsLaw any_line AnyFault
-any_fault = record { by_zero = λ line l. tt; beyond = λ line l. tt; deep = λ line l. tt }
-
-silent_law : Law silent_step any_line AnyFault SilentEval SilentReturned
+silent_law : Law silent_step any_line AnyCode SilentEval SilentReturned
 silent_law = record {
   fell = λ vars. none;
   back = λ value. none;
@@ -93,14 +87,14 @@ unfolding silent_block guarded_block
 block_silent around h b q vars =
     let calls : CallsLaw silent_step any_line SilentReturned around.calls =
     record { function = λ f args line l. h f args line; task = λ t es args line z l. absurd (cc) } in
-    block_law silent_step any_line AnyFault SilentEval SilentReturned silent_law any_fault around calls b q vars
+    block_law silent_step any_line AnyCode SilentEval SilentReturned silent_law any_faults around calls b q vars
 
 -- A function says nothing, whose block and all other functions' do not.
 pub functions_silent : (context : Context) → ((f : ℕ) → silent_block (item_at context.code.functions f).body ≡ true) → (left f : ℕ) (args : List ℤ) (line : ℕ) →
     Silent ((calls_of context left).function f args line).given
 unfolding silent_block guarded_block
 functions_silent context s left f args line =
-    (calls_law silent_step any_line AnyFault SilentEval SilentReturned silent_law any_fault context s (λ t es q. absurd (cc)) left).function f args line refl
+    (calls_law silent_step any_line AnyCode SilentEval SilentReturned silent_law any_faults context s (λ t es q. absurd (cc)) left).function f args line refl
 
 -- The job that is a call has what main binds bind_if the call.
 collected_behind : (g x : Acts) → Silent g → collected kind.Sum (nothing kind.Sum) (g ++ x) ≡ collected kind.Sum (nothing kind.Sum) x
