@@ -7,7 +7,8 @@ use Rattle.spd_check.specs.Checks.{last_returns, stmt_returns, kind_returns, ret
 pub stmt_is : (t : Stmt) → stmt_returns t ≡ kind_returns t.what
 stmt_is t = fold_out-Stmt Bool Bool returns_step returns_line t
 
-last_from : (t : Stmt) (stmts : List Stmt) (last : Stmt) → slice_get (t ∷ stmts) (length stmts) ≡ Some last → block_returns (t ∷ stmts) ≡ kind_returns last.what
+last_from : (t : Stmt) (stmts : List Stmt) (last : Stmt) → slice_get (t ∷ stmts) (length stmts) ≡ Some last → block_returns (t ∷ stmts)
+    ≡ kind_returns last.what
 last_from t [] last e = let same : t ≡ last = cc in stmt_is t ∙ ap (λ (u : Stmt). kind_returns u.what) same
 last_from t (u ∷ stmts) last e = last_from u stmts last e
 

@@ -13,11 +13,13 @@ pub none_more : (faults others : Faults) → faults ≡ [] → others ≡ [] →
 none_more faults others e d = cc
 
 -- An answer with the first of the faults so far is right for all.
-pub passes_more : {A : Type 0} (answer : Result A CheckFault) (fault : CheckFault) (faults others : Faults) → answer ≡ Err fault → (fault.kind ≢ NoMemory → first_fault faults ≡ Some fault) → Passes answer (faults ++ others)
+pub passes_more : {A : Type 0} (answer : Result A CheckFault) (fault : CheckFault) (faults others : Faults) → answer ≡ Err fault
+    → (fault.kind ≢ NoMemory → first_fault faults ≡ Some fault) → Passes answer (faults ++ others)
 passes_more answer fault faults others e f = rw e (λ k. first_more faults others fault (f k))
 
 -- Where there are none so far, an answer on the others is right for all.
-pub passes_behind : {A : Type 0} (answer : Result A CheckFault) (faults others : Faults) → faults ≡ [] → Passes answer others → Passes answer (faults ++ others)
+pub passes_behind : {A : Type 0} (answer : Result A CheckFault) (faults others : Faults) → faults ≡ [] → Passes answer others
+    → Passes answer (faults ++ others)
 passes_behind answer faults others e p = rw e p
 
 -- The same where the first faults are in two parts.

@@ -26,7 +26,7 @@ use Rattle.spd_check.specs.declared.faults.CheckKind.{CheckKind}
 use Rattle.spd_check.specs.declared.faults.CheckKind.TheVariants.{AsyncOutside, OfferOutside, PrintPlace, NoReturn}
 use Rattle.spd_check.specs.Places.{in_function, in_task, in_main, may_collect, may_print, place_in, place_inside}
 use Rattle.spd_check.specs.Faults.{Faults, fault_unless}
-use Rattle.spd_check.specs.Checks.{Checked, CheckedKind, kind_check, line_check, stmt_checked, kind_checked, statements_faults, inside_faults, block_faults, block_returns, expression_faults, twice, params_faults, declared_faults, item_faults, again_faults, main_faults, faults_of}
+use Rattle.spd_check.specs.Checks.{Checked, CheckedKind, kind_check, line_check, stmt_checked, kind_checked, statements_faults, inside_faults, block_faults, block_returns, expression_faults, twice, params_faults, callable_faults, declared_faults, item_faults, again_faults, main_faults, faults_of}
 use Rattle.spd_check.specs.Checked.{AreSilent}
 
 none_both : {A : Type 0} (xs ys : List A) → xs ++ ys ≡ [] → (xs ≡ []) × (ys ≡ [])
@@ -34,23 +34,27 @@ none_both [] ys e = (refl, e)
 none_both (x ∷ xs) ys e = absurd (cc)
 
 -- In a function, what collects stands in a finish or async block, and a print nowhere.
-collects : (inside : Bool) (where_ : Home) (line : ℕ) (kind : CheckKind) → in_function where_ ≡ true → fault_unless (inside || in_task where_) line kind ≡ [] → inside ≡ true
+collects : (inside : Bool) (where_ : Home) (line : ℕ) (kind : CheckKind) → in_function where_ ≡ true
+    → fault_unless (inside || in_task where_) line kind ≡ [] → inside ≡ true
 collects true where_ line kind h e = refl
 collects false home.Function line kind h e = absurd (cc)
 collects false home.Main line kind h e = absurd (cc)
 collects false home.Task line kind h e = absurd (cc)
 
-prints : (inside : Bool) (where_ : Home) (line : ℕ) (kind : CheckKind) → in_function where_ ≡ true → fault_unless (in_main where_ && not inside) line kind ≡ [] → ⊥
+prints : (inside : Bool) (where_ : Home) (line : ℕ) (kind : CheckKind) → in_function where_ ≡ true
+    → fault_unless (in_main where_ && not inside) line kind ≡ [] → ⊥
 prints inside home.Function line kind h e = cc
 prints inside home.Main line kind h e = cc
 prints inside home.Task line kind h e = cc
 
 module _ (items : List Item) where
   abbrev KindHolds : StmtKind → Type 0
-  KindHolds k = (line : ℕ) (names : Names) (place : Place) → in_function place.home ≡ true → (kind_checked items k).1 line names place ≡ [] → kind_stands k place.inside ≡ true
+  KindHolds k = (line : ℕ) (names : Names) (place : Place) → in_function place.home ≡ true → (kind_checked items k).1 line names place ≡ []
+      → kind_stands k place.inside ≡ true
 
   abbrev StmtHolds : Stmt → Type 0
-  StmtHolds t = (names : Names) (place : Place) → in_function place.home ≡ true → (stmt_checked items t).1 names place ≡ [] → stmt_stands t place.inside ≡ true
+  StmtHolds t = (names : Names) (place : Place) → in_function place.home ≡ true → (stmt_checked items t).1 names place ≡ []
+      → stmt_stands t place.inside ≡ true
 
   abbrev KindWith : Type 0
   KindWith = (k : StmtKind) × KindHolds k
@@ -64,21 +68,26 @@ module _ (items : List Item) where
   abbrev layer : s.StmtKind-F StmtKind Stmt → s.StmtKind-F CheckedKind Checked
   layer z = K.map-StmtKind StmtKind Stmt CheckedKind Checked (kind_checked items) (stmt_checked items) z
 
-  rolled : (z : s.StmtKind-F StmtKind Stmt) → ((line : ℕ) (names : Names) (place : Place) → in_function place.home ≡ true → (kind_check items (layer z)).1 line names place ≡ []
+  rolled : (z : s.StmtKind-F StmtKind Stmt) → ((line : ℕ) (names : Names) (place : Place) → in_function place.home ≡ true
+      → (kind_check items (layer z)).1 line names place ≡ []
       → stands_step (K.map-StmtKind StmtKind Stmt Stands Stands kind_stands stmt_stands z) place.inside ≡ true) → KindHolds (K.roll-StmtKind z)
   unfolding kind_stands stmt_stands
   rolled z q line names place h e =
       ap (λ (p : Stands). p place.inside) (K.fold-roll-StmtKind Stands Stands stands_step stands_line z)
-      ∙ q line names place h (ap (λ (c : CheckedKind). c.1 line names place) (sym (K.fold-roll-StmtKind CheckedKind Checked (kind_check items) (line_check items) z)) ∙ e)
+      ∙ q line names place h (ap (λ (c : CheckedKind). c.1 line names place) (sym (K.fold-roll-StmtKind CheckedKind Checked (kind_check items)
+          (line_check items) z)) ∙ e)
 
   -- the statements of a block
-  all_well : (ts : List StmtWith) (names : Names) (place : Place) → in_function place.home ≡ true → statements_faults (map (stmt_checked items) (bare ts)) names place ≡ [] → all_stand (map stmt_stands (bare ts)) place.inside ≡ true
+  all_well : (ts : List StmtWith) (names : Names) (place : Place) → in_function place.home ≡ true
+      → statements_faults (map (stmt_checked items) (bare ts)) names place ≡ [] → all_stand (map stmt_stands (bare ts)) place.inside ≡ true
   all_well [] names place h e = refl
   all_well (t ∷ ts) names place h e =
-      let n = none_both ((stmt_checked items t.0).1 names place) (statements_faults (map (stmt_checked items) (bare ts)) (names ++ (stmt_checked items t.0).0) place) e in
+      let n = none_both ((stmt_checked items t.0).1 names place) (statements_faults (map (stmt_checked items) (bare ts)) (names ++
+          (stmt_checked items t.0).0) place) e in
       both_true _ _ (t.1 names place h n.0) (all_well ts (names ++ (stmt_checked items t.0).0) place h n.1)
 
-  inside_well : (ts : List StmtWith) (names : Names) (place : Place) → in_function place.home ≡ true → inside_faults (map (stmt_checked items) (bare ts)) names place ≡ [] → all_stand (map stmt_stands (bare ts)) true ≡ true
+  inside_well : (ts : List StmtWith) (names : Names) (place : Place) → in_function place.home ≡ true
+      → inside_faults (map (stmt_checked items) (bare ts)) names place ≡ [] → all_stand (map stmt_stands (bare ts)) true ≡ true
   inside_well ts names place h e = all_well ts names (place_inside place (length names)) h e
 
   at_layer : (y : s.StmtKind-F KindWith StmtWith) → KindHolds (K.roll-StmtKind (K.map-StmtKind KindWith StmtWith StmtKind Stmt (λ k. k.0) (λ t. t.0) y))
@@ -86,7 +95,8 @@ module _ (items : List Item) where
   at_layer (s.Assign name e) = rolled (s.Assign name e) (λ line names place h q. refl)
   at_layer (s.If e first second) = rolled (s.If e (bare first) (bare second)) (λ line names place h q.
       let n = none_both (expression_faults items names line e) _ q in
-      let m = none_both (statements_faults (map (stmt_checked items) (bare first)) names place) (statements_faults (map (stmt_checked items) (bare second)) names place) n.1 in
+      let m = none_both (statements_faults (map (stmt_checked items) (bare first)) names place) (statements_faults (map (stmt_checked items)
+          (bare second)) names place) n.1 in
       both_true _ _ (all_well first names place h m.0) (all_well second names place h m.1))
   at_layer (s.For name from to body) = rolled (s.For name from to (bare body)) (λ line names place h q.
       let n = none_both (expression_faults items names line from) _ q in
@@ -108,16 +118,19 @@ module _ (items : List Item) where
   at_layer (s.Print ps) = rolled (s.Print ps) (λ line names place h q.
       absurd (prints place.inside place.home line PrintPlace h (none_both (fault_unless (may_print place) line PrintPlace) _ q).0))
 
-  at_kinds : (x : s.StmtKind-F StmtKind Stmt) (y : s.StmtKind-F KindWith StmtWith) → K.map-StmtKind KindWith StmtWith StmtKind Stmt (λ k. k.0) (λ t. t.0) y ≡ x → KindHolds (K.roll-StmtKind x)
+  at_kinds : (x : s.StmtKind-F StmtKind Stmt) (y : s.StmtKind-F KindWith StmtWith)
+      → K.map-StmtKind KindWith StmtWith StmtKind Stmt (λ k. k.0) (λ t. t.0) y ≡ x → KindHolds (K.roll-StmtKind x)
   at_kinds x y e = subst (λ (z : s.StmtKind-F StmtKind Stmt). KindHolds (K.roll-StmtKind z)) e (at_layer y)
 
   at_line : (z : s.Stmt-F StmtKind Stmt) → KindHolds z.what → StmtHolds (S.roll-Stmt z)
   unfolding kind_stands stmt_stands
   at_line z k names place h e =
       ap (λ (p : Stands). p place.inside) (S.fold-roll-Stmt Stands Stands stands_step stands_line z)
-      ∙ k z.line names place h (ap (λ (c : Checked). c.1 names place) (sym (S.fold-roll-Stmt CheckedKind Checked (kind_check items) (line_check items) z)) ∙ e)
+      ∙ k z.line names place h (ap (λ (c : Checked). c.1 names place) (sym (S.fold-roll-Stmt CheckedKind Checked (kind_check items)
+          (line_check items) z)) ∙ e)
 
-  at_stmts : (x : s.Stmt-F StmtKind Stmt) (y : s.Stmt-F KindWith StmtWith) → S.map-Stmt KindWith StmtWith StmtKind Stmt (λ k. k.0) (λ t. t.0) y ≡ x → StmtHolds (S.roll-Stmt x)
+  at_stmts : (x : s.Stmt-F StmtKind Stmt) (y : s.Stmt-F KindWith StmtWith) → S.map-Stmt KindWith StmtWith StmtKind Stmt (λ k. k.0) (λ t. t.0) y ≡ x
+      → StmtHolds (S.roll-Stmt x)
   at_stmts x y e = subst (λ (z : s.Stmt-F StmtKind Stmt). StmtHolds (S.roll-Stmt z)) e (at_line (record { line = y.line; what = y.what.0 }) y.what.1)
 
   stmt_well : (t : Stmt) → StmtHolds t
@@ -138,9 +151,9 @@ module _ (items : List Item) where
 
   one_well : (k : i.the_data) (line : ℕ) (cs : List Callable) → declared_faults items line k ≡ [] → StandWell cs → StandWell (function_in k ++ cs)
   one_well (i.Function name params body) line cs e w =
-      let n = none_both (params_faults [] params line) _ e in
-      let m = none_both (block_faults items body params (place_in home.Function)) (fault_unless (block_returns body) line NoReturn) n.1 in
-      (body_well body params m.0, w)
+      let n = none_both (callable_faults items home.Function line params body) (fault_unless (block_returns body) line NoReturn) e in
+      let m = none_both (params_faults [] params line) (block_faults items body params (place_in home.Function)) n.0 in
+      (body_well body params m.1, w)
   one_well (i.Task name params body) line cs e w = w
   one_well (i.Main body) line cs e w = w
   one_well (i.IntColumn name file field) line cs e w = w
@@ -159,4 +172,5 @@ silent program tree e is f =
     let n = none_both (again_faults [] program.items) _ e in
     let m = none_both (main_faults program.items program.last_line) _ n.1 in
     ap (λ (t : CodeTree). silent_block (item_at t.functions f).body) is
-    ∙ functions_quiet (spaces_of program.items) (callables_of program.items).functions (program_code program.items).functions (coded program.items).functions (functions_well program.items program.items m.1) f
+    ∙ functions_quiet (spaces_of program.items) (callables_of program.items).functions (program_code program.items).functions
+        (coded program.items).functions (functions_well program.items program.items m.1) f

@@ -16,6 +16,7 @@ use Rattle.spd_check.specs.declared.declared.Entries.{Entries}
 use Rattle.spd_check.specs.declared.declared.Entries.TheVariants.{Ints, Texts}
 use Rattle.spd_check.specs.declared.expressions.ColumnUse.{ColumnUse}
 use Rattle.spd_check.specs.declared.expressions.ColumnUse.TheVariants as use_of
+use Rattle.spd_check.specs.declared.place.Home.{Home}
 use Rattle.spd_check.specs.declared.place.Home.TheVariants as home
 use Rattle.spd_check.specs.declared.place.Place.{Place}
 use Rattle.spd_meaning.specs.Names.{Name, Names, binds}
@@ -171,10 +172,13 @@ module _ (items : List Item) where
 
   -- ---- items
 
+  -- the parameters of a function or a task, and then its block
+  abbrev pub callable_faults : Home → ℕ → Names → List Stmt → Faults
+  callable_faults home line params body = params_faults [] params line ++ block_faults body params (place_in home)
+
   abbrev pub declared_faults : ℕ → i.the_data → Faults
-  declared_faults line (i.Function name params body) =
-      params_faults [] params line ++ (block_faults body params (place_in home.Function) ++ fault_unless (block_returns body) line NoReturn)
-  declared_faults line (i.Task name params body) = params_faults [] params line ++ block_faults body params (place_in home.Task)
+  declared_faults line (i.Function name params body) = callable_faults home.Function line params body ++ fault_unless (block_returns body) line NoReturn
+  declared_faults line (i.Task name params body) = callable_faults home.Task line params body
   declared_faults line (i.Main body) = block_faults body [] (place_in home.Main)
   declared_faults line _ = []
 

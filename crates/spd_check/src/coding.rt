@@ -170,7 +170,12 @@ fn code_kind<'a>(
             let no = code_else(alloc, spaces, scope, no)?;
             Ok(CodeStmtKind::If { cond, yes, no })
         }
-        StmtKind::For { name, from, to, body } => {
+        StmtKind::For {
+            name,
+            from,
+            to,
+            body,
+        } => {
             let from = expression(alloc, spaces, &scope.names, from)?;
             let to = expression(alloc, spaces, &scope.names, to)?;
             let body = code_turns(alloc, spaces, scope, name, body)?;

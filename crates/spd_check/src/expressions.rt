@@ -36,12 +36,7 @@ fn fits_use(used: ColumnUse, entries: Entries) -> bool
 
 /// Checks the use of a column or lines item.
 #[tactic(auto, unfolding(crate::specs::Checks::column_faults))]
-fn check_column(
-    items: &[Item],
-    line: u32,
-    column: &[u8],
-    used: ColumnUse,
-) -> Result<(), CheckFault>
+fn check_column(items: &[Item], line: u32, column: &[u8], used: ColumnUse) -> Result<(), CheckFault>
     ensures { Passes result (spec.column_faults items.now column.now used line) }
 {
     let Some(entries) = entries_of(items, column) else {
@@ -112,12 +107,7 @@ pub(crate) fn check_expr(
 
 /// Checks the arguments of a call, from left to right.
 #[tactic(auto, using(crate::proofs::Passing::first_more, crate::proofs::Passing::none_more))]
-fn check_exprs(
-    items: &[Item],
-    names: &[&[u8]],
-    line: u32,
-    exprs: &Exprs,
-) -> Result<(), CheckFault>
+fn check_exprs(items: &[Item], names: &[&[u8]], line: u32, exprs: &Exprs) -> Result<(), CheckFault>
     ensures { Passes result (expressions_faults items.now (name_texts names.now) line exprs.now) }
 {
     for expr in exprs.as_slice() {

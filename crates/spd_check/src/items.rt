@@ -1,8 +1,7 @@
 // Checking the items of a program.
 
-ghost use Rattle.std.specs.Prelude.{◌≡◌, ◌++◌, [], flat_map, OnOk};
+ghost use Rattle.std.specs.Prelude.{◌≡◌, [], flat_map, OnOk};
 ghost use Rattle.spd_check.specs.Faults.{Passes};
-ghost use Rattle.spd_check.specs.Places.{place_in};
 ghost use Rattle.spd_check.specs.Names.{name_texts};
 ghost use Rattle.spd_check.specs.Checks as spec;
 
@@ -21,7 +20,11 @@ fn check_again(items: &[Item]) -> Result<(), CheckFault>
     ensures { Passes result (spec.again_faults [] items.now) }
 {
     for (place, item) in items.iter().enumerate() {
-        unless(!is_declared(&items[..place], item), item.line, CheckKind::Twice)?;
+        unless(
+            !is_declared(&items[..place], item),
+            item.line,
+            CheckKind::Twice,
+        )?;
     }
     Ok(())
 }
@@ -53,8 +56,7 @@ fn check_callable(
     params: &Names,
     body: &Block,
 ) -> Result<(), CheckFault>
-    ensures { Passes result (spec.params_faults [] params.now line ++
-        spec.block_faults items.now body.now params.now (place_in home)) }
+    ensures { Passes result (spec.callable_faults items.now home line params.now body.now) }
 {
     let mut names = Vec::new(alloc);
     check_params(&mut names, line, params)?;

@@ -15,5 +15,5 @@ mod statements;
 mod tree;
 mod values;
 
-pub use program::{Code, check};
 pub use faults::{CheckFault, CheckKind};
+pub use program::{Code, check};

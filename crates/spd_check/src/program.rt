@@ -46,7 +46,7 @@ impl Code {
     }
 
     /// The program's code: its tree with each name as a number.
-    #[tactic(auto, using(crate::proofs::Meanings::means, crate::proofs::Placing::silent))]
+    #[tactic(auto, using(crate::proofs::Placing::silent))]
     pub fn tree(&self) -> &CodeTree
         ensures code { result.now ≡ program_code self.now.items }
         ensures meaning { MeansItself self.now.items result.now }

@@ -24,9 +24,10 @@ impl<'a> Model for SpaceNames<'a> {
     ghost Value = { Spaces };
 
     ghost view = { λ spaces. record {
-        columns = name_texts spaces.column_names.items;
-        functions = name_texts spaces.function_names.items;
-        tasks = name_texts spaces.task_names.items } };
+      columns = name_texts spaces.column_names.items;
+      functions = name_texts spaces.function_names.items;
+      tasks = name_texts spaces.task_names.items;
+    } };
 }
 
 impl<'a> SpaceNames<'a> {

@@ -313,9 +313,12 @@ fn check_kind<'a>(
             check_if(items, names, place, yes, line, cond)?;
             check_block(items, names, place, no)
         }
-        StmtKind::For { name, from, to, body } => {
-            check_for(items, names, place, body, line, name, from, to)
-        }
+        StmtKind::For {
+            name,
+            from,
+            to,
+            body,
+        } => { check_for(items, names, place, body, line, name, from, to) }
         StmtKind::Async { body } => check_async(items, names, place, body, line),
         StmtKind::Finish { body } => check_inside(items, names, place, body),
         StmtKind::Offer { value } => check_offer(items, names, place, line, value),

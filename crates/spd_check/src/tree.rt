@@ -1,6 +1,7 @@
 // The code of the items of a program.
 
-ghost use Rattle.std.specs.Prelude.{◌≡◌, ◌+◌, ◌++◌, [], ◌∷◌, length, IfOk, OnOk};
+ghost use Rattle.std.specs.Prelude.{◌≡◌, ◌+◌, ◌++◌, [], ◌∷◌, length, None, IfOk, OnOk};
+ghost use Rattle.std.specs.List.{last_or};
 ghost use Rattle.spd_code.specs.Resolved as spec;
 ghost use Rattle.spd_check.specs.Checks.{faults_of};
 ghost use Rattle.spd_check.specs.Names.{name_texts};
@@ -18,7 +19,7 @@ use std::alloc::{AllocError, Global};
 struct CodedItems {
     functions: CodeItems,
     tasks: CodeItems,
-    mains: Vec<CodeBlock>,
+    main: Option<CodeBlock>,
     /// The number of the next block.
     next_block: u32,
 }
@@ -44,8 +45,9 @@ fn code_callable(
     body: &Block,
 ) -> Result<CodeItem, AllocError>
     ensures code { IfOk result (λ item. item ≡ record {
-        params = length params.now;
-        body = block_coded spaces.now body.now params.now next_block.old }) }
+      params = length params.now;
+      body = block_coded spaces.now body.now params.now next_block.old;
+    }) }
     ensures blocks { OnOk result (next_block.new ≡ next_block.old + block_count spaces.now body.now) }
 {
     let mut scope = scope_of(alloc, params, *next_block)?;
@@ -88,8 +90,8 @@ fn code_item(
         coded.old.functions ++ spec.function_code spaces.now coded.old.next_block item.now.what) }
     ensures tasks { OnOk result (coded.new.tasks ≡
         coded.old.tasks ++ spec.task_code spaces.now coded.old.next_block item.now.what) }
-    ensures mains { OnOk result (coded.new.mains.items ≡
-        coded.old.mains.items ++ main_code_in spaces.now coded.old.next_block item.now.what) }
+    ensures main { OnOk result (coded.new.main ≡
+        last_or coded.old.main (main_code_in spaces.now coded.old.next_block item.now.what)) }
     ensures blocks { OnOk result (coded.new.next_block ≡
         coded.old.next_block + spec.item_blocks spaces.now item.now.what) }
 {
@@ -106,7 +108,7 @@ fn code_item(
         }
         ItemKind::Main { body } => {
             let main = code_main(alloc, spaces, &mut coded.next_block, body)?;
-            coded.mains.push(main)?;
+            coded.main = Some(main);
             Ok(())
         }
         ItemKind::IntColumn { .. } | ItemKind::TextColumn { .. } | ItemKind::Lines { .. } => Ok(()),
@@ -114,15 +116,16 @@ fn code_item(
 }
 
 /// The code of all items.
+#[tactic(auto, using(crate::proofs::OneMain::last_append))]
 fn code_items(alloc: Global, spaces: &SpaceNames, items: &[Item]) -> Result<CodedItems, AllocError>
     ensures functions { IfOk result (λ coded. coded.functions ≡ spec.functions_code spaces.now 0 items.now) }
     ensures tasks { IfOk result (λ coded. coded.tasks ≡ spec.tasks_code spaces.now 0 items.now) }
-    ensures mains { IfOk result (λ coded. coded.mains.items ≡ mains_code spaces.now 0 items.now) }
+    ensures main { IfOk result (λ coded. coded.main ≡ last_or None (mains_code spaces.now 0 items.now)) }
 {
     let mut coded = CodedItems {
         functions: Seq::new(alloc),
         tasks: Seq::new(alloc),
-        mains: Vec::new(alloc),
+        main: None,
         next_block: 0,
     };
     for item in items {
@@ -132,7 +135,7 @@ fn code_items(alloc: Global, spaces: &SpaceNames, items: &[Item]) -> Result<Code
 }
 
 /// The code of a program without faults.
-#[tactic(auto, using(crate::proofs::OneMain::one_main))]
+#[tactic(auto, using(crate::proofs::OneMain::last_main))]
 pub(crate) fn code_program(alloc: Global, program: &Program) -> Result<CodeTree, AllocError>
     requires { faults_of program.now ≡ [] }
     ensures { IfOk result (λ code. code ≡ spec.program_code program.now.items) }
@@ -143,15 +146,15 @@ pub(crate) fn code_program(alloc: Global, program: &Program) -> Result<CodeTree,
     let CodedItems {
         functions,
         tasks,
-        mut mains,
+        main,
         next_block: _,
     } = coded;
-    let Some(main) = mains.pop() else {
-        unreachable!()
-    };
-    Ok(CodeTree {
-        functions,
-        tasks,
-        main,
-    })
+    match main {
+        Some(main) => Ok(CodeTree {
+            functions,
+            tasks,
+            main,
+        }),
+        None => unreachable!(),
+    }
 }

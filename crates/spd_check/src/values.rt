@@ -47,7 +47,10 @@ pub(crate) fn expression(
     match expr {
         Expr::Number(number) => Ok(CodeExpr::Number(*number)),
         Expr::Var(name) => Ok(CodeExpr::Var(variable(names, name.as_slice())?)),
-        Expr::Unary(op, inner) => Ok(CodeExpr::Unary(*op, operand(alloc, spaces, names, inner.get())?)),
+        Expr::Unary(op, inner) => Ok(CodeExpr::Unary(
+            *op,
+            operand(alloc, spaces, names, inner.get())?,
+        )),
         Expr::Binary(op, left, right) => {
             let left = operand(alloc, spaces, names, left.get())?;
             let right = operand(alloc, spaces, names, right.get())?;
@@ -106,7 +109,9 @@ fn part(
 {
     match part {
         PrintPart::Lit(text) => Ok(CodePrintPart::Lit(Seq::from_slice(alloc, text.as_slice())?)),
-        PrintPart::Value(value) => Ok(CodePrintPart::Value(expression(alloc, spaces, names, value)?)),
+        PrintPart::Value(value) => Ok(CodePrintPart::Value(expression(
+            alloc, spaces, names, value,
+        )?)),
     }
 }
 

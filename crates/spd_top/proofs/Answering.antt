@@ -2,9 +2,8 @@
 use Rattle.std.proofs.Common.{◌≡◌, ◌≢◌, ℕ, List, [], Some, codes, ◌⊎◌, inl, inr}
 use Rattle.spd_io.specs.Shelf.{ShelfState, FailedAt}
 use Rattle.spd_io.specs.Sink.{SinkState}
-use Rattle.spd_check.specs.declared.code.CodeBlock.{CodeBlock}
-use Rattle.spd_top.specs.Meaning.{Writes}
-use Rattle.spd_top.specs.Serving.{Bytes, operand_of, of_file, Outcome, GetsOrFails, unread, Says, WantsMemory, Runs, ran, out_stopped, memory_stopped, Answer, as_defined, out_failed, err_failed, no_memory, no_more_memory}
+use Rattle.spd_top.specs.Told.{Bytes, of_file, Told}
+use Rattle.spd_top.specs.Serving.{operand_of, Outcome, GetsOrFails, unread, Says, WantsMemory, Tells, took, out_stopped, err_stopped, memory_stopped, Answer, as_defined, out_failed, err_failed, no_memory, no_more_memory}
 use Rattle.spd_top.proofs.Putting.{takes_nothing}
 
 module _ (words : List Bytes) (shelf shelf' : ShelfState) (out err err' : SinkState) where
@@ -28,9 +27,10 @@ module _ (words : List Bytes) (shelf shelf' : ShelfState) (out err err' : SinkSt
   not_read name result operand failed (inl s) = rw s.0 (unread name operand failed (takes_nothing out) s.1)
   not_read name result operand failed (inr w) = wanted result w
 
--- a program that was run
-pub has_run : (words : List Bytes) (shelf shelf' : ShelfState) (main : CodeBlock) (out out' err err' : SinkState) (result : ℕ) → ((bytes : Bytes) → Writes main bytes → Outcome words shelf.file 0 bytes [])
-    → Runs main out out' err err' result → Answer words shelf shelf' out out' err err' result
-has_run words shelf shelf' main out out' err err' result outcome (ran bytes writes got told) = as_defined 0 bytes [] (outcome bytes writes) got told
-has_run words shelf shelf' main out out' err err' result outcome (out_stopped bytes writes fails told) = out_failed 0 bytes [] (outcome bytes writes) fails told
-has_run words shelf shelf' main out out' err err' result outcome (memory_stopped bytes writes front told) = no_more_memory 0 bytes [] (outcome bytes writes) front told
+-- what a command tells of a program
+pub has_told : (words : List Bytes) (shelf shelf' : ShelfState) (t : Told) (out out' err err' : SinkState) (result : ℕ) → Outcome words shelf.file t.status t.bytes t.line → t.status ≢ 4
+    → Tells t out out' err err' result → Answer words shelf shelf' out out' err err' result
+has_told words shelf shelf' t out out' err err' result outcome other (took got told) = as_defined t.status t.bytes t.line outcome got told
+has_told words shelf shelf' t out out' err err' result outcome other (out_stopped fails told) = out_failed t.status t.bytes t.line outcome fails told
+has_told words shelf shelf' t out out' err err' result outcome other (err_stopped got fails) = err_failed t.status t.bytes t.line outcome other got fails
+has_told words shelf shelf' t out out' err err' result outcome other (memory_stopped front told) = no_more_memory t.status t.bytes t.line outcome front told

@@ -1,6 +1,6 @@
 -- Claims about the words of arguments.
 use Rattle.std.proofs.Common.{◌≡◌, List, Result, Ok, sym, subst}
-use Rattle.spd_top.specs.Serving.{Bytes}
+use Rattle.spd_top.specs.Told.{Bytes}
 use Rattle.spd_top.specs.Command.{words_of, AreText, WhereNotText}
 
 -- Where the words are UTF-8, nothing is claimed of words that aren't.

@@ -1,5 +1,5 @@
--- What a text comes to: a fault of its tokens, a fault of its grammar, a program that isn't built, or one that runs.
-use Rattle.std.specs.Prelude.{◌≡◌, ◌≢◌, ℕ, [], List, Ok, Err}
+-- What a text comes to: a fault of its tokens, of its grammar or of the checks, or a program that passes them.
+use Rattle.std.specs.Prelude.{◌≡◌, ℕ, [], List, Ok, Err, Some}
 use Rattle.spd_syntax.specs.declared.tree.Program.{Program}
 use Rattle.spd_syntax.specs.declared.token.Token.{Token}
 use Rattle.spd_syntax.specs.declared.lexing.LexFault.{LexFault}
@@ -13,11 +13,11 @@ use Rattle.spd_syntax.specs.Symbols.{all_seen}
 use Rattle.spd_syntax.specs.Grammar.{program}
 use Rattle.spd_syntax.specs.Limits.{KeepsLimits}
 use Rattle.spd_syntax.specs.Faults.{IsSpelled, IsFirstFault}
-use Rattle.spd_check.specs.declared.code.CodeBlock.{CodeBlock}
+use Rattle.spd_check.specs.declared.faults.CheckFault.{CheckFault}
 use Rattle.spd_check.specs.declared.faults.CheckKind.{CheckKind}
 use Rattle.spd_check.specs.declared.faults.CheckKind.TheVariants as check
+use Rattle.spd_check.specs.Faults.{first_fault}
 use Rattle.spd_check.specs.Checks.{faults_of}
-use Rattle.spd_check.specs.Resolved.{main_code}
 use Rattle.spd_top.specs.declared.building.BuildError.{BuildError}
 use Rattle.spd_top.specs.declared.building.BuildError.TheVariants as errors
 
@@ -38,28 +38,23 @@ pub record IsFaulty (text : List ℕ) (fault : ParseFault) : Type 0 where
 pub data TextOutcome : Type 0 where
   lex_fault : LexFault → TextOutcome
   parse_fault : ParseFault → TextOutcome
-  -- The checks refuse the program, or it has what isn't built yet.
-  not_built : TextOutcome
-  runs : Program → TextOutcome
+  check_fault : CheckFault → TextOutcome
+  passes : Program → TextOutcome
 
 -- Each text comes to one outcome, and to no other.
 abbrev pub ComesTo : List ℕ → TextOutcome → Type 0
 ComesTo text (lex_fault fault) = tokens_of text ≡ Err fault
 ComesTo text (parse_fault fault) = IsFaulty text fault
-ComesTo text not_built = (tree : Program) × IsProgram text tree × (faults_of tree ≢ [])
-ComesTo text (runs tree) = IsProgram text tree × (faults_of tree ≡ [])
+ComesTo text (check_fault fault) = (tree : Program) × IsProgram text tree × (first_fault (faults_of tree) ≡ Some fault)
+ComesTo text (passes tree) = IsProgram text tree × (faults_of tree ≡ [])
 
 -- ---- what `build` answers
-
--- It is the code of a program that the text spells and that runs.
-abbrev pub HasCode : List ℕ → CodeBlock → Type 0
-HasCode text main = (tree : Program) × ComesTo text (runs tree) × (main ≡ main_code tree)
 
 -- why a text gave no code, unless memory ran out
 abbrev pub IsRefused : List ℕ → BuildError → Type 0
 IsRefused text (errors.Lex fault) = ComesTo text (lex_fault fault)
 IsRefused text (errors.Parse fault) = ComesTo text (parse_fault fault)
-IsRefused text errors.NotBuilt = ComesTo text not_built
+IsRefused text (errors.Check fault) = ComesTo text (check_fault fault)
 IsRefused text errors.NoMemory = Unit {0}
 
 -- the error of a fault of each kind
@@ -72,6 +67,6 @@ abbrev pub parse_error : ParseKind → ParseFault → BuildError
 parse_error parse.NoMemory fault = errors.NoMemory
 parse_error _ fault = errors.Parse fault
 
-abbrev pub check_error : CheckKind → BuildError
-check_error check.NoMemory = errors.NoMemory
-check_error _ = errors.NotBuilt
+abbrev pub check_error : CheckKind → CheckFault → BuildError
+check_error check.NoMemory fault = errors.NoMemory
+check_error _ fault = errors.Check fault

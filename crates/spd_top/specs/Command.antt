@@ -2,7 +2,7 @@
 use Rattle.std.specs.Prelude.{List, [], ◌∷◌, Result, IfOk}
 use Rattle.std.specs.List.{All}
 use Rattle.std.specs.Str.{IsUtf8}
-use Rattle.spd_top.specs.Serving.{Bytes}
+use Rattle.spd_top.specs.Told.{Bytes}
 
 -- the arguments behind the first, which is the program's own name
 abbrev pub words_of : List Bytes → List Bytes

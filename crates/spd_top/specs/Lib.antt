@@ -1,5 +1,4 @@
 pub mod Built
-pub mod Meaning
-pub mod Running
+pub mod Told
 pub mod Serving
 pub mod Command

@@ -1,24 +1,13 @@
 -- What a command line over files defines, and what is answered where files, sinks or memory fail.
-use Rattle.std.specs.Prelude.{◌≡◌, ◌≢◌, ℕ, ◌≤◌, Bool, false, not, ◌&&◌, ◌==◌, if◌then◌else◌, List, [], ◌∷◌, ◌++◌, length, Option, Some, None, codes, ◌⊎◌}
+use Rattle.std.specs.Prelude.{◌≡◌, ◌≢◌, ℕ, ◌≤◌, Bool, false, not, ◌==◌, if◌then◌else◌, List, [], ◌∷◌, ◌++◌, length, Option, Some, None, codes, ◌⊎◌}
 use Rattle.std.specs.Str.{bytes_eq}
-use Rattle.std.specs.Fmt.{decimal}
 use Rattle.spd_io.specs.Shelf.{FileTold, Untold, Missing, MayBe, MayExceed, ShelfState, FailedAt}
 use Rattle.spd_io.specs.Sink.{SinkState, Gets, GetsFront, Failed, SameFaults}
-use Rattle.spd_syntax.specs.declared.tree.Program.{Program}
-use Rattle.spd_syntax.specs.declared.lexing.LexFault.{LexFault}
-use Rattle.spd_syntax.specs.declared.lexing.LexKind.{LexKind}
-use Rattle.spd_syntax.specs.declared.lexing.LexKind.TheVariants as lex
-use Rattle.spd_syntax.specs.declared.fault.ParseFault.{ParseFault}
-use Rattle.spd_syntax.specs.declared.fault.ParseKind.{ParseKind}
-use Rattle.spd_syntax.specs.declared.fault.ParseKind.TheVariants as parse
 use Rattle.spd_syntax.specs.Limits.{max_text}
-use Rattle.spd_check.specs.declared.code.CodeBlock.{CodeBlock}
-use Rattle.spd_check.specs.Resolved.{main_code}
-use Rattle.spd_top.specs.Meaning.{Writes}
-use Rattle.spd_top.specs.Built.{TextOutcome, lex_fault, parse_fault, not_built, runs, ComesTo}
-
-abbrev pub Bytes : Type 0
-Bytes = List ℕ
+use Rattle.spd_top.specs.declared.words.Command.{Command}
+use Rattle.spd_top.specs.declared.words.Command.TheVariants.{Elide, Check}
+use Rattle.spd_top.specs.Built.{TextOutcome, ComesTo}
+use Rattle.spd_top.specs.Told.{Bytes, end_of_line, of_file, Told, told_of}
 
 -- ---- words
 
@@ -27,17 +16,26 @@ abbrev pub is_operand : Bytes → Bool
 is_operand [] = false
 is_operand (b ∷ z) = not (b == 45)
 
--- the operand of `elide`; nothing where the words are refused
+abbrev pub command_named : Bytes → Option Command
+command_named word = if bytes_eq word (codes "elide") then Some Elide else if bytes_eq word (codes "check") then Some Check else None
+
+-- the command that the first word names
+abbrev pub command_of : List Bytes → Option Command
+command_of [] = None
+command_of (word ∷ words) = command_named word
+
+abbrev pub named_operand : Option Command → Bytes → Option Bytes
+named_operand None operand = None
+named_operand (Some command) operand = if is_operand operand then Some operand else None
+
+-- the operand of a command, PROGRAM; nothing where the words are refused
 abbrev pub operand_of : List Bytes → Option Bytes
 operand_of [] = None
 operand_of (command ∷ []) = None
-operand_of (command ∷ operand ∷ []) = if bytes_eq command (codes "elide") && is_operand operand then Some operand else None
+operand_of (command ∷ operand ∷ []) = named_operand (command_named command) operand
 operand_of (command ∷ operand ∷ more ∷ others) = None
 
--- ---- the lines that tell a status
-
-abbrev pub end_of_line : Bytes
-end_of_line = 10 ∷ []
+-- ---- the lines that tell of no file
 
 abbrev pub words_refused : Bytes
 words_refused = codes "spd: words refused" ++ end_of_line
@@ -48,42 +46,15 @@ out_of_memory = codes "spd: out of memory" ++ end_of_line
 abbrev pub write_failed : Bytes
 write_failed = codes "spd: write failed" ++ end_of_line
 
--- what is told of a file
-abbrev pub of_file : Bytes → Bytes → Bytes
-of_file name what = codes "spd: " ++ name ++ codes ": " ++ what ++ end_of_line
-
--- what is told of a line of a file
-abbrev pub of_line : Bytes → ℕ → Bytes → Bytes
-of_line name line what = codes "spd: " ++ name ++ codes ":" ++ decimal line ++ codes ": " ++ what ++ end_of_line
-
-abbrev pub lex_word : LexKind → Bytes
-lex_word lex.BadByte = codes "BadByte"
-lex_word lex.OpenString = codes "OpenString"
-lex_word lex.BadEscape = codes "BadEscape"
-lex_word lex.NoMemory = codes "NoMemory"
-
-abbrev pub parse_word : ParseKind → Bytes
-parse_word parse.Expected = codes "Expected"
-parse_word parse.Literal = codes "Literal"
-parse_word parse.TooDeep = codes "TooDeep"
-parse_word parse.TooMany = codes "TooMany"
-parse_word parse.NoMemory = codes "NoMemory"
-
 -- ---- the outcome: a status, the bytes for `out` and the line for `err`
-
--- what a text comes to, as the outcome of a program of this name
-pub data TextTold (name : Bytes) : TextOutcome → ℕ → Bytes → Bytes → Type 0 where
-  lex_faulty : (fault : LexFault) → TextTold name (lex_fault fault) 1 [] (of_line name fault.line (lex_word fault.kind))
-  parse_faulty : (fault : ParseFault) → TextTold name (parse_fault fault) 1 [] (of_line name fault.line (parse_word fault.kind))
-  unbuilt_program : TextTold name not_built 1 [] (of_file name (codes "NotBuilt"))
-  done : (program : Program) (bytes : Bytes) → Writes (main_code program) bytes → TextTold name (runs program) 0 bytes []
 
 pub data Outcome (words : List Bytes) (file : Bytes → FileTold) : ℕ → Bytes → Bytes → Type 0 where
   refused : operand_of words ≡ None → Outcome words file 2 [] words_refused
   missing : (name : Bytes) → operand_of words ≡ Some name → file name ≡ Missing → Outcome words file 4 [] (of_file name (codes "read failed"))
   too_long : (name : Bytes) → operand_of words ≡ Some name → MayExceed (file name) max_text → Outcome words file 1 [] (of_file name (codes "TooLong"))
-  of_text : (name text : Bytes) (outcome : TextOutcome) (status : ℕ) (bytes line : Bytes) → operand_of words ≡ Some name → MayBe (file name) text → length text ≤ max_text
-      → ComesTo text outcome → TextTold name outcome status bytes line → Outcome words file status bytes line
+  of_text : (command : Command) (name text : Bytes) (outcome : TextOutcome) (status : ℕ) (bytes line : Bytes) → command_of words ≡ Some command → operand_of words ≡ Some name
+      → MayBe (file name) text → length text ≤ max_text → ComesTo text outcome
+      → told_of command name outcome ≡ record { status = status; bytes = bytes; line = line } → Outcome words file status bytes line
 
 -- two statuses, with the bytes for `out` and the lines for `err`
 abbrev pub SameAnswer : ℕ → ℕ → Bytes → Bytes → Bytes → Bytes → Type 0
@@ -120,11 +91,12 @@ Says status old new line result = ((result ≡ status) × Takes old new line) �
 abbrev pub WantsMemory : SinkState → SinkState → ℕ → Type 0
 WantsMemory old new result = (result ≡ 7) × GetsOrFails old new out_of_memory
 
--- What a run of a program wrote, by the code of its main, and its status.
-pub data Runs (main : CodeBlock) (out out' err err' : SinkState) : ℕ → Type 0 where
-  ran : (bytes : Bytes) → Writes main bytes → Takes out out' bytes → Takes err err' [] → Runs main out out' err err' 0
-  out_stopped : (bytes : Bytes) → Writes main bytes → FailsIn out out' bytes → GetsOrFails err err' write_failed → Runs main out out' err err' 5
-  memory_stopped : (bytes : Bytes) → Writes main bytes → TakesFront out out' bytes → GetsOrFails err err' out_of_memory → Runs main out out' err err' 7
+-- What was to be told was answered, or a sink failed in it, or memory ran out when `out` had got the first of its bytes.
+pub data Tells (t : Told) (out out' err err' : SinkState) : ℕ → Type 0 where
+  took : Takes out out' t.bytes → Takes err err' t.line → Tells t out out' err err' t.status
+  out_stopped : FailsIn out out' t.bytes → GetsOrFails err err' write_failed → Tells t out out' err err' 5
+  err_stopped : Takes out out' t.bytes → FailsIn err err' t.line → Tells t out out' err err' 5
+  memory_stopped : TakesFront out out' t.bytes → GetsOrFails err err' out_of_memory → Tells t out out' err err' 7
 
 -- What was answered, by what shelf, `out` and `err` were before and after.
 pub data Answer (words : List Bytes) (shelf shelf' : ShelfState) (out out' err err' : SinkState) : ℕ → Type 0 where

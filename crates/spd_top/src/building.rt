@@ -1,7 +1,7 @@
 // From a text to the code of its program, or why it has none.
 
 ghost use Rattle.std.specs.Prelude.{◌≡◌, IfOk, IfErr};
-ghost use Rattle.spd_top.specs.Built.{IsProgram, TextOutcome, ComesTo, HasCode, IsRefused, lex_error, parse_error, check_error};
+ghost use Rattle.spd_top.specs.Built.{IsProgram, TextOutcome, passes, ComesTo, IsRefused, lex_error, parse_error, check_error};
 ghost use Rattle.spd_top.specs.declared.building.BuildError.TheVariants.{NoMemory};
 
 use spd_check::{CheckFault, CheckKind, Code, check};
@@ -16,8 +16,8 @@ pub enum BuildError {
     Lex(LexFault),
     /// Its tokens spell no program within the limits.
     Parse(ParseFault),
-    /// The checks refuse its program, or it has what isn't built yet.
-    NotBuilt,
+    /// The checks refuse its program.
+    Check(CheckFault),
     NoMemory,
 }
 
@@ -44,12 +44,12 @@ impl From<ParseFault> for BuildError {
 }
 
 impl From<CheckFault> for BuildError {
-    ghost from_gives = { λ fault error. error ≡ check_error fault.kind };
+    ghost from_gives = { λ fault error. error ≡ check_error fault.kind fault };
 
     fn from(fault: CheckFault) -> BuildError {
         match fault.kind {
             CheckKind::NoMemory => BuildError::NoMemory,
-            _ => BuildError::NotBuilt,
+            _ => BuildError::Check(fault),
         }
     }
 }
@@ -65,17 +65,17 @@ pub fn read(alloc: Global, text: &[u8]) -> Result<Program, BuildError>
     Ok(program)
 }
 
-/// The code of the program that a text spells within the limits and that passes the checks, or the
-/// first of what is wrong: a fault of its tokens, else one of its grammar or of a limit, else that its
-/// program isn't built. `NoMemory` comes where memory runs out.
-#[tactic(auto, using(crate::proofs::OneOutcome::comes_to_one))]
+/// The program that a text spells within the limits and that passes the checks, with its code; or the
+/// first of what is wrong: a fault of its tokens, else one of its grammar or of a limit, else one of the
+/// checks. `NoMemory` comes where memory runs out.
+#[tactic(auto, using(crate::proofs::OneOutcome::comes_to_one, crate::proofs::Refusals::check_refuses))]
 pub fn build(alloc: Global, text: &[u8]) -> Result<Code, BuildError>
-    ensures built { IfOk result (λ code. HasCode text.now code) }
+    ensures built { IfOk result (λ code. ComesTo text.now (passes code)) }
     ensures refused { IfErr result (λ error. IsRefused text.now error) }
     // A text comes to one of them alone.
     ensures one { (a b : TextOutcome) → ComesTo text.now a → ComesTo text.now b → a ≡ b }
 {
     let program = read(alloc, text)?;
-    let code = check(alloc, &program)?;
+    let code = check(alloc, program)?;
     Ok(code)
 }

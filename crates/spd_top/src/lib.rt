@@ -3,7 +3,7 @@
 
 mod building;
 mod command;
-mod running;
+mod programs;
 mod serving;
 mod status;
 mod telling;
@@ -12,4 +12,4 @@ mod words;
 pub use building::{BuildError, build, read};
 pub use command::serve_arguments;
 pub use serving::serve_still;
-pub use words::Words;
+pub use words::{Command, Words};

@@ -3,42 +3,25 @@
 ghost use Rattle.std.specs.Prelude.{◌≡◌, ◌≢◌, ◌<◌, ◌⊎◌, ℕ, List, [], Some};
 ghost use Rattle.spd_io.specs.Shelf.{FailedAt, ChangesNoOther};
 ghost use Rattle.spd_io.specs.Sink.{Failed, SameFaults};
-ghost use Rattle.spd_top.specs.Serving.{operand_of, words_refused, Says, Answer, Runs, HasOneOutcome};
+ghost use Rattle.spd_top.specs.Serving.{operand_of, words_refused, Says, Answer, HasOneOutcome};
 
 use crate::building::{BuildError, build};
-use crate::running::{RunError, run};
-use crate::status;
+use crate::programs::{elide, show};
 use crate::telling::{
-    fail_read, lex_word, out_of_memory, parse_word, refuse_line, refuse_program, refuse_words, tell,
+    check_word, fail_read, lex_word, out_of_memory, parse_word, refuse_line, refuse_program,
+    refuse_words,
 };
-use crate::words::Words;
-use spd_check::Code;
+use crate::words::{Command, Words};
 use spd_io::{Shelf, ShelfFault, Sink};
-use spd_task::PlainRegions;
 use std::alloc::Global;
 
 /// The greatest number of bytes of a program's text.
 const MAX_TEXT: usize = 1_048_576;
 
-/// Runs a program, and answers the status.
-fn run_program<O: Sink, E: Sink>(alloc: Global, code: &Code, out: &mut O, err: &mut E) -> u8
-    ensures { Runs code.now (O.state out.old) (O.state out.new) (E.state err.old) (E.state err.new) result }
-{
-    let mut regions = PlainRegions::new(code);
-    match run(alloc, code, &mut regions, out) {
-        Ok(()) => status::DONE,
-        Err(RunError::WriteFailed) => {
-            tell(err, b"spd: write failed\n");
-            status::WRITE_FAILED
-        }
-        Err(RunError::NoMemory) => out_of_memory(err),
-    }
-}
-
 /// Does what the words of a command line say, over a shelf of files, a sink for the output and one
 /// for errors, and answers the status that the command ends with.
 ///
-/// It does `elide PROGRAM`; every other list of words is refused. It always returns.
+/// It does `elide PROGRAM` and `check PROGRAM`; every other list of words is refused. It always returns.
 #[tactic(auto, using(crate::proofs::OneOutcome::has_one_outcome))]
 pub fn serve_still<F: Shelf, O: Sink, E: Sink>(
     alloc: Global,
@@ -67,7 +50,7 @@ pub fn serve_still<F: Shelf, O: Sink, E: Sink>(
     // Over a file that is told, the outcome is one.
     ensures one { HasOneOutcome words.now (F.state shelf.old).file }
 {
-    let Some(name) = words.operand() else {
+    let Some((command, name)) = words.asked() else {
         return refuse_words(err);
     };
     let text = match shelf.read(alloc, name, MAX_TEXT) {
@@ -77,14 +60,19 @@ pub fn serve_still<F: Shelf, O: Sink, E: Sink>(
         Err(ShelfFault::NoMemory) => return out_of_memory(err),
     };
     match build(alloc, &text) {
-        Ok(code) => run_program(alloc, &code, out, err),
+        Ok(code) => match command {
+            Command::Elide => elide(alloc, name, &code, out, err),
+            Command::Check => show(alloc, &code, out, err),
+        },
         Err(BuildError::Lex(fault)) => {
             refuse_line(alloc, err, name, fault.line, lex_word(fault.kind))
         }
         Err(BuildError::Parse(fault)) => {
             refuse_line(alloc, err, name, fault.line, parse_word(fault.kind))
         }
-        Err(BuildError::NotBuilt) => refuse_program(alloc, err, name, "NotBuilt"),
+        Err(BuildError::Check(fault)) => {
+            refuse_line(alloc, err, name, fault.line, check_word(fault.kind))
+        }
         Err(BuildError::NoMemory) => out_of_memory(err),
     }
 }

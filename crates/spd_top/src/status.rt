@@ -7,6 +7,9 @@ pub const PROGRAM_REFUSED: u8 = 1;
 /// The words are refused.
 pub const WORDS_REFUSED: u8 = 2;
 
+/// The program ended with a fault.
+pub const PROGRAM_FAULTED: u8 = 3;
+
 /// A file could not be read.
 pub const READ_FAILED: u8 = 4;
 

@@ -1,9 +1,11 @@
 // The lines for standard error, with the status that each tells.
 
-ghost use Rattle.std.specs.Prelude.{◌≡◌, ◌⊎◌, codes, string_bytes, IfOk};
-ghost use Rattle.spd_top.specs.Serving.{words_refused, out_of_memory, of_file, of_line, lex_word, parse_word, GetsOrFails, Says, WantsMemory};
+ghost use Rattle.std.specs.Prelude.{◌≡◌, ◌⊎◌, ◌%◌, codes, string_bytes, IfOk};
+ghost use Rattle.spd_top.specs.Told.{of_file, of_line, of_fault, lex_word, parse_word, check_word, fault_word};
+ghost use Rattle.spd_top.specs.Serving.{words_refused, out_of_memory, GetsOrFails, Says, WantsMemory};
 
 use crate::status;
+use spd_check::CheckKind;
 use spd_io::{Sink, write_all_of};
 use spd_syntax::{LexKind, ParseKind};
 use std::alloc::{AllocError, Global};
@@ -53,7 +55,7 @@ fn file_line(alloc: Global, name: &str, what: &str) -> Result<String, AllocError
 }
 
 /// The line that tells something of a line of a file.
-fn line_line(alloc: Global, name: &str, line: u32, what: &str) -> Result<String, AllocError>
+fn line_line(alloc: Global, name: &str, line: u64, what: &str) -> Result<String, AllocError>
     ensures { IfOk result (λ told. string_bytes told ≡ of_line name.now line what.now) }
 {
     let mut told = String::from_str(alloc, "spd: ")?;
@@ -91,6 +93,51 @@ pub(crate) fn parse_word(kind: ParseKind) -> &'static str
     }
 }
 
+/// The word that tells what the checks refuse.
+pub(crate) fn check_word(kind: CheckKind) -> &'static str
+    ensures { result.now ≡ check_word kind }
+{
+    match kind {
+        CheckKind::Unknown => "Unknown",
+        CheckKind::Twice => "Twice",
+        CheckKind::Arity => "Arity",
+        CheckKind::AsyncOutside => "AsyncOutside",
+        CheckKind::OfferOutside => "OfferOutside",
+        CheckKind::PrintPlace => "PrintPlace",
+        CheckKind::ReturnPlace => "ReturnPlace",
+        CheckKind::AssignOuter => "AssignOuter",
+        CheckKind::ColumnKind => "ColumnKind",
+        CheckKind::NoMain => "NoMain",
+        CheckKind::NoReturn => "NoReturn",
+        CheckKind::NoMemory => "NoMemory",
+    }
+}
+
+/// The words that tell the kind of a fault of a run.
+fn fault_word(kind: u64) -> &'static str
+    ensures { result.now ≡ fault_word kind }
+{
+    if kind == 1 {
+        "division by zero"
+    } else if kind == 2 {
+        "index out of range"
+    } else {
+        "calls too deep"
+    }
+}
+
+/// Tells that a program ended with the fault of a code, which has its line and its kind, and answers 3;
+/// or 5 where `err` fails.
+pub(crate) fn fail_run<E: Sink>(alloc: Global, err: &mut E, name: &str, code: u64) -> u8
+    ensures { Says 3 (E.state err.old) (E.state err.new) (of_fault name.now code) result ⊎
+        WantsMemory (E.state err.old) (E.state err.new) result }
+{
+    match line_line(alloc, name, code / 8, fault_word(code % 8)) {
+        Ok(told) => say(err, told.as_bytes(), status::PROGRAM_FAULTED),
+        Err(_) => out_of_memory(err),
+    }
+}
+
 /// Tells that a program is refused for what stands on a line, and answers 1; or 5 where `err` fails.
 pub(crate) fn refuse_line<E: Sink>(
     alloc: Global,
@@ -102,7 +149,7 @@ pub(crate) fn refuse_line<E: Sink>(
     ensures { Says 1 (E.state err.old) (E.state err.new) (of_line name.now line kind.now) result ⊎
         WantsMemory (E.state err.old) (E.state err.new) result }
 {
-    match line_line(alloc, name, line, kind) {
+    match line_line(alloc, name, u64::from(line), kind) {
         Ok(told) => say(err, told.as_bytes(), status::PROGRAM_REFUSED),
         Err(_) => out_of_memory(err),
     }

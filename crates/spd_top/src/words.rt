@@ -1,10 +1,19 @@
 // The words of a command line.
 
 ghost use Rattle.std.specs.Prelude.{◌≡◌, [], ◌∷◌, ◌++◌, Some, None, OnOk, OnErr, MatchOption};
-ghost use Rattle.spd_top.specs.Serving.{is_operand, operand_of};
+ghost use Rattle.spd_top.specs.Serving.{is_operand, operand_of, command_of, command_named};
 
 use std::alloc::{AllocError, Global};
 use std::marker::Model;
+
+/// What a command line asks for.
+#[derive(Clone, Copy, Debug, PartialEq, Eq)]
+pub enum Command {
+    /// To run a program on one thread, each async and finish where it stands.
+    Elide,
+    /// To tell the first fault of a program, or else its canonical text.
+    Check,
+}
 
 /// The words of a command line, without the program's own name.
 #[derive(Drop)]
@@ -40,21 +49,36 @@ impl Words {
         Ok(())
     }
 
-    /// The operand of `elide`, or none where the words are refused.
-    pub(crate) fn operand(&self) -> Option<&str>
-        ensures { MatchOption result (operand_of self.now ≡ None) (λ name. operand_of self.now ≡ Some name.now) }
+    /// The command and its operand, or none where the words are refused.
+    pub(crate) fn asked(&self) -> Option<(Command, &str)>
+        ensures { MatchOption result (operand_of self.now ≡ None)
+            (λ asked. (command_of self.now ≡ Some asked.0) × (operand_of self.now ≡ Some asked.1.now)) }
     {
         match self.words.as_slice() {
-            [command, operand] => {
+            [word, operand] => {
+                let command = command_named(word.as_bytes())?;
                 let name = operand.as_str();
-                if command.as_bytes() == b"elide".as_slice() && is_operand(name.as_bytes()) {
-                    Some(name)
+                if is_operand(name.as_bytes()) {
+                    Some((command, name))
                 } else {
                     None
                 }
             }
             _ => None,
         }
+    }
+}
+
+/// The command of this name.
+fn command_named(word: &[u8]) -> Option<Command>
+    ensures { result ≡ command_named word.now }
+{
+    if word == b"elide".as_slice() {
+        Some(Command::Elide)
+    } else if word == b"check".as_slice() {
+        Some(Command::Check)
+    } else {
+        None
     }
 }
 

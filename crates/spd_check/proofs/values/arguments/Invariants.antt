@@ -6,4 +6,5 @@ use Rattle.spd_check.proofs.values.arguments.Given as goal
 
 abbrev pub invariant-loop-expr : goal.invariant-loop-expr
 invariant-loop-expr l =
-    l.coded ++ map (expression_code l.spaces (name_texts l.names)) (drop l.expr-index l.expr-items) ≡ map (expression_code l.spaces (name_texts l.names)) l.exprs
+    l.coded ++ map (expression_code l.spaces (name_texts l.names)) (drop l.expr-index l.expr-items)
+        ≡ map (expression_code l.spaces (name_texts l.names)) l.exprs

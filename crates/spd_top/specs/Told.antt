@@ -1,0 +1,123 @@
+-- What a command tells of a text: a status, the bytes for `out` and the line for `err`.
+use Rattle.std.specs.Prelude.{ℕ, ◌/◌, ◌%◌, ◌==◌, if◌then◌else◌, true, false, Bool, List, [], ◌∷◌, ◌++◌, ℤ, pos, None, codes}
+use Rattle.std.specs.Fmt.{decimal}
+use Rattle.spd_syntax.specs.declared.tree.Item.{Item}
+use Rattle.spd_syntax.specs.declared.tree.Program.{Program}
+use Rattle.spd_syntax.specs.declared.lexing.LexKind.{LexKind}
+use Rattle.spd_syntax.specs.declared.lexing.LexKind.TheVariants as lex
+use Rattle.spd_syntax.specs.declared.fault.ParseKind.{ParseKind}
+use Rattle.spd_syntax.specs.declared.fault.ParseKind.TheVariants as parse
+use Rattle.spd_syntax.specs.Layout.{canonical_text}
+use Rattle.spd_check.specs.declared.faults.CheckKind.{CheckKind}
+use Rattle.spd_check.specs.declared.faults.CheckKind.TheVariants as check
+use Rattle.spd_meaning.specs.Eval as eval
+use Rattle.spd_meaning.specs.Eval.{Eval}
+use Rattle.spd_meaning.specs.Values.{ColumnView}
+use Rattle.spd_meaning.specs.Names.{Name, Names}
+use Rattle.spd_meaning.specs.Programs.{main_meaning, columns_of}
+use Rattle.spd_meaning.specs.Printed.{printed}
+use Rattle.spd_top.specs.declared.words.Command.{Command}
+use Rattle.spd_top.specs.declared.words.Command.TheVariants.{Elide, Check}
+use Rattle.spd_top.specs.Built.{TextOutcome, lex_fault, parse_fault, check_fault, passes}
+
+abbrev pub Bytes : Type 0
+Bytes = List ℕ
+
+-- ---- lines
+
+abbrev pub end_of_line : Bytes
+end_of_line = 10 ∷ []
+
+-- what is told of a file
+abbrev pub of_file : Bytes → Bytes → Bytes
+of_file name what = codes "spd: " ++ name ++ codes ": " ++ what ++ end_of_line
+
+-- what is told of a line of a file
+abbrev pub of_line : Bytes → ℕ → Bytes → Bytes
+of_line name line what = codes "spd: " ++ name ++ codes ":" ++ decimal line ++ codes ": " ++ what ++ end_of_line
+
+abbrev pub lex_word : LexKind → Bytes
+lex_word lex.BadByte = codes "BadByte"
+lex_word lex.OpenString = codes "OpenString"
+lex_word lex.BadEscape = codes "BadEscape"
+lex_word lex.NoMemory = codes "NoMemory"
+
+abbrev pub parse_word : ParseKind → Bytes
+parse_word parse.Expected = codes "Expected"
+parse_word parse.Literal = codes "Literal"
+parse_word parse.TooDeep = codes "TooDeep"
+parse_word parse.TooMany = codes "TooMany"
+parse_word parse.NoMemory = codes "NoMemory"
+
+abbrev pub check_word : CheckKind → Bytes
+check_word check.Unknown = codes "Unknown"
+check_word check.Twice = codes "Twice"
+check_word check.Arity = codes "Arity"
+check_word check.AsyncOutside = codes "AsyncOutside"
+check_word check.OfferOutside = codes "OfferOutside"
+check_word check.PrintPlace = codes "PrintPlace"
+check_word check.ReturnPlace = codes "ReturnPlace"
+check_word check.AssignOuter = codes "AssignOuter"
+check_word check.ColumnKind = codes "ColumnKind"
+check_word check.NoMain = codes "NoMain"
+check_word check.NoReturn = codes "NoReturn"
+check_word check.NoMemory = codes "NoMemory"
+
+-- the word for the kind of a fault of a run
+abbrev pub fault_word : ℕ → Bytes
+fault_word kind = if kind == 1 then codes "division by zero" else if kind == 2 then codes "index out of range" else codes "calls too deep"
+
+-- what is told of the code of a fault: it has the line and the kind
+abbrev pub of_fault : Bytes → ℕ → Bytes
+of_fault name code = of_line name (code / 8) (fault_word (code % 8))
+
+-- ---- what is told
+
+pub record Told : Type 0 where
+  pub status : ℕ
+  -- for `out`
+  pub bytes : Bytes
+  -- for `err`
+  pub line : Bytes
+
+abbrev pub refusal : Bytes → Told
+refusal line = record { status = 1; bytes = []; line = line }
+
+abbrev pub end_told : {A : Type 0} → Bytes → eval.End A → Bytes → Told
+end_told name (eval.Fault code) bytes = record { status = 3; bytes = bytes; line = of_fault name code }
+end_told name _ bytes = record { status = 0; bytes = bytes; line = [] }
+
+-- the lines that main prints, and where it faults that fault
+abbrev pub run_told : {A : Type 0} → Bytes → Eval A → Told
+run_told name a = end_told name a.end (printed a.given)
+
+abbrev pub is_some_name : Names → Bool
+is_some_name [] = false
+is_some_name (name ∷ names) = true
+
+-- It declares a column or lines item.
+abbrev pub has_columns : List Item → Bool
+has_columns items = is_some_name (columns_of items)
+
+-- Each column is empty where there is none.
+abbrev pub no_columns : Name → ColumnView
+no_columns name = record { length = pos 0; number = λ i. None; text = λ i. None }
+
+-- Columns aren't built yet. Else the program runs, and what it means is said of its own names.
+abbrev pub elided : Bytes → Program → Told
+elided name tree = if has_columns tree.items then refusal (of_file name (codes "NotBuilt")) else run_told name (main_meaning tree.items no_columns)
+
+abbrev pub checked : Program → Told
+checked tree = record { status = 0; bytes = canonical_text tree; line = [] }
+
+-- what a command tells of a program that passes the checks
+abbrev pub program_told : Command → Bytes → Program → Told
+program_told Elide name tree = elided name tree
+program_told Check name tree = checked tree
+
+-- what it tells of a file of this name, whose text comes to this
+abbrev pub told_of : Command → Bytes → TextOutcome → Told
+told_of command name (lex_fault fault) = refusal (of_line name fault.line (lex_word fault.kind))
+told_of command name (parse_fault fault) = refusal (of_line name fault.line (parse_word fault.kind))
+told_of command name (check_fault fault) = refusal (of_line name fault.line (check_word fault.kind))
+told_of command name (passes tree) = program_told command name tree
