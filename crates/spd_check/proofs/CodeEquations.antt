@@ -47,7 +47,7 @@ module _ (spaces : Spaces) where
   stmt_binds t =
       ap (λ (r : Resolved CodeStmt). r.binds) (fold_out-Stmt (Resolved CodeStmtKind) (Resolved CodeStmt) (resolve_kind spaces) (resolve_line spaces) t)
       ∙ (ap (λ (r : Resolved CodeStmtKind). r.binds) (fold_out-StmtKind (Resolved CodeStmtKind) (Resolved CodeStmt) (resolve_kind spaces)
-          (resolve_line spaces) t.what)
+      (resolve_line spaces) t.what)
       ∙ binds_mapped (kind_resolved spaces) (statement_resolved spaces) (out-StmtKind t.what))
 
   rolled : (z : s.StmtKind-F StmtKind Stmt) → kind_resolved spaces (roll-StmtKind z)

@@ -1,5 +1,5 @@
 -- What the checks of a statement are, kind by kind.
-use Rattle.std.proofs.Common.{◌≡◌, ◌∙◌, ℕ, List, ap, map, sym}
+use Rattle.std.proofs.Common.{◌≡◌, ◌∙◌, List, ap, map, sym}
 use Rattle.spd_syntax.specs.declared.tree.Expr.{Expr}
 use Rattle.spd_syntax.specs.declared.tree.PrintPart.{PrintPart}
 use Rattle.spd_syntax.specs.declared.tree.Collect.{Collect}

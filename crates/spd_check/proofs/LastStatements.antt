@@ -1,8 +1,8 @@
 -- Whether a block returns is told by its last statement.
-use Rattle.std.proofs.Common.{◌≡◌, ◌-◌, List, [], ◌∷◌, length, map, Some, None, false, refl, ap, subst, arith, ◌∙◌}
+use Rattle.std.proofs.Common.{◌≡◌, ◌-◌, List, [], ◌∷◌, length, Some, None, false, refl, ap, subst, arith, ◌∙◌}
 use Rattle.std.specs.Prelude.{slice_get, Bool}
 use Rattle.spd_syntax.specs.declared.tree.Stmt.{Stmt, fold_out-Stmt}
-use Rattle.spd_check.specs.Checks.{last_returns, stmt_returns, kind_returns, returns_step, returns_line, block_returns}
+use Rattle.spd_check.specs.Checks.{stmt_returns, kind_returns, returns_step, returns_line, block_returns}
 
 pub stmt_is : (t : Stmt) → stmt_returns t ≡ kind_returns t.what
 stmt_is t = fold_out-Stmt Bool Bool returns_step returns_line t

@@ -1,5 +1,5 @@
 -- A program without faults has one main.
-use Rattle.std.proofs.Common.{◌≡◌, ◌∙◌, ℕ, ◌+◌, List, [], ◌∷◌, ◌++◌, true, false, refl, ap, sym, subst, Some, None}
+use Rattle.std.proofs.Common.{◌≡◌, ℕ, ◌+◌, List, [], ◌∷◌, ◌++◌, true, false, refl, ap, Some, None}
 use Rattle.std.proofs.lemmas.List.{append-nil}
 use Rattle.std.specs.Prelude.{Option, Bool, ◌||◌, ◌&&◌}
 use Rattle.std.specs.List.{list_any, last_or}
@@ -9,7 +9,7 @@ use Rattle.spd_syntax.specs.declared.tree.Stmt.{Stmt}
 use Rattle.spd_syntax.specs.declared.tree.Program.{Program}
 use Rattle.spd_meaning.specs.Programs.{main_in, main_of, is_main}
 use Rattle.spd_code.specs.declared.stmt.CodeBlock.{CodeBlock}
-use Rattle.spd_code.specs.Resolved.{Spaces, code_of, before_main, item_blocks, spaces_of}
+use Rattle.spd_code.specs.Resolved.{Spaces, code_of, before_main, item_blocks}
 use Rattle.spd_check.specs.Items.{has_main, declares_again, is_declared}
 use Rattle.spd_check.specs.declared.faults.CheckKind.TheVariants.{Twice, NoMain}
 use Rattle.spd_check.specs.Faults.{fault_where, fault_unless}
@@ -94,7 +94,7 @@ module _ (spaces : Spaces) where
   no_more before [] a h = record { code = λ n. refl; stmts = refl }
   no_more before (item ∷ items) a h =
       no_more_at before items item (is_main item.what) refl a h (no_more (before ++ item ∷ []) items (again_later before items item a)
-          (has_more before (item ∷ []) h))
+      (has_more before (item ∷ []) h))
 
   abbrev OneMain : List Item → Type 0
   OneMain items = (n : ℕ) → mains_code spaces n items ≡ code_of spaces [] (before_main spaces n items) (main_of items) ∷ []
@@ -115,7 +115,7 @@ module _ (spaces : Spaces) where
   one_main_in before [] a h n = absurd (cc)
   one_main_in before (item ∷ items) a h n =
       one_main_at before items item (is_main item.what) refl a (λ e. one_main_in (before ++ item ∷ []) items (again_later before items item a)
-          (or_rest (is_main item.what) (has_main items) h e)) n
+      (or_rest (is_main item.what) (has_main items) h e)) n
 
 main_there : (b : Bool) (line : ℕ) → fault_unless b line NoMain ≡ [] → b ≡ true
 main_there true line e = refl

@@ -1,5 +1,5 @@
 -- The first of several faults.
-use Rattle.std.proofs.Common.{◌≡◌, ◌≢◌, ◌∙◌, Result, Ok, Err, ◌++◌, [], ◌∷◌, Some, ap, subst, append_assoc}
+use Rattle.std.proofs.Common.{◌≡◌, ◌≢◌, Result, Err, ◌++◌, [], ◌∷◌, Some, append_assoc}
 use Rattle.spd_check.specs.declared.faults.CheckFault.{CheckFault}
 use Rattle.spd_check.specs.declared.faults.CheckKind.TheVariants.{NoMemory}
 use Rattle.spd_check.specs.Faults.{Faults, first_fault, Passes}

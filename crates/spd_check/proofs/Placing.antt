@@ -25,7 +25,7 @@ use Rattle.spd_check.specs.declared.place.Place.{Place}
 use Rattle.spd_check.specs.declared.faults.CheckKind.{CheckKind}
 use Rattle.spd_check.specs.declared.faults.CheckKind.TheVariants.{AsyncOutside, OfferOutside, PrintPlace, NoReturn}
 use Rattle.spd_check.specs.Places.{in_function, in_task, in_main, may_collect, may_print, place_in, place_inside}
-use Rattle.spd_check.specs.Faults.{Faults, fault_unless}
+use Rattle.spd_check.specs.Faults.{fault_unless}
 use Rattle.spd_check.specs.Checks.{Checked, CheckedKind, kind_check, line_check, stmt_checked, kind_checked, statements_faults, inside_faults, block_faults, block_returns, expression_faults, twice, params_faults, callable_faults, declared_faults, item_faults, again_faults, main_faults, faults_of}
 use Rattle.spd_check.specs.Checked.{AreSilent}
 
@@ -75,7 +75,7 @@ module _ (items : List Item) where
   rolled z q line names place h e =
       ap (λ (p : Stands). p place.inside) (K.fold-roll-StmtKind Stands Stands stands_step stands_line z)
       ∙ q line names place h (ap (λ (c : CheckedKind). c.1 line names place) (sym (K.fold-roll-StmtKind CheckedKind Checked (kind_check items)
-          (line_check items) z)) ∙ e)
+      (line_check items) z)) ∙ e)
 
   -- the statements of a block
   all_well : (ts : List StmtWith) (names : Names) (place : Place) → in_function place.home ≡ true
@@ -83,7 +83,7 @@ module _ (items : List Item) where
   all_well [] names place h e = refl
   all_well (t ∷ ts) names place h e =
       let n = none_both ((stmt_checked items t.0).1 names place) (statements_faults (map (stmt_checked items) (bare ts)) (names ++
-          (stmt_checked items t.0).0) place) e in
+      (stmt_checked items t.0).0) place) e in
       both_true _ _ (t.1 names place h n.0) (all_well ts (names ++ (stmt_checked items t.0).0) place h n.1)
 
   inside_well : (ts : List StmtWith) (names : Names) (place : Place) → in_function place.home ≡ true
@@ -96,7 +96,7 @@ module _ (items : List Item) where
   at_layer (s.If e first second) = rolled (s.If e (bare first) (bare second)) (λ line names place h q.
       let n = none_both (expression_faults items names line e) _ q in
       let m = none_both (statements_faults (map (stmt_checked items) (bare first)) names place) (statements_faults (map (stmt_checked items)
-          (bare second)) names place) n.1 in
+      (bare second)) names place) n.1 in
       both_true _ _ (all_well first names place h m.0) (all_well second names place h m.1))
   at_layer (s.For name from to body) = rolled (s.For name from to (bare body)) (λ line names place h q.
       let n = none_both (expression_faults items names line from) _ q in
@@ -127,7 +127,7 @@ module _ (items : List Item) where
   at_line z k names place h e =
       ap (λ (p : Stands). p place.inside) (S.fold-roll-Stmt Stands Stands stands_step stands_line z)
       ∙ k z.line names place h (ap (λ (c : Checked). c.1 names place) (sym (S.fold-roll-Stmt CheckedKind Checked (kind_check items)
-          (line_check items) z)) ∙ e)
+      (line_check items) z)) ∙ e)
 
   at_stmts : (x : s.Stmt-F StmtKind Stmt) (y : s.Stmt-F KindWith StmtWith) → S.map-Stmt KindWith StmtWith StmtKind Stmt (λ k. k.0) (λ t. t.0) y ≡ x
       → StmtHolds (S.roll-Stmt x)
@@ -173,4 +173,4 @@ silent program tree e is f =
     let m = none_both (main_faults program.items program.last_line) _ n.1 in
     ap (λ (t : CodeTree). silent_block (item_at t.functions f).body) is
     ∙ functions_quiet (spaces_of program.items) (callables_of program.items).functions (program_code program.items).functions
-        (coded program.items).functions (functions_well program.items program.items m.1) f
+    (coded program.items).functions (functions_well program.items program.items m.1) f

@@ -1,5 +1,5 @@
 -- The checks of a program: all its faults in the order of its text.
-use Rattle.std.specs.Prelude.{ℕ, nat_lt, Bool, true, false, not, ◌==◌, ◌&&◌, ◌||◌, if◌then◌else◌, List, [], ◌∷◌, ◌++◌, length, map, flat_map, Option, None, Some}
+use Rattle.std.specs.Prelude.{ℕ, nat_lt, Bool, true, false, ◌==◌, ◌&&◌, if◌then◌else◌, List, [], ◌∷◌, ◌++◌, length, map, flat_map, Option, None, Some}
 use Rattle.spd_syntax.specs.declared.tree.Expr.{Expr, fold-Expr}
 use Rattle.spd_syntax.specs.declared.tree.Expr.TheOpen.{Expr-F}
 use Rattle.spd_syntax.specs.declared.tree.PrintPart.{PrintPart}
@@ -10,7 +10,6 @@ use Rattle.spd_syntax.specs.declared.tree.Stmt.{Stmt, fold-Stmt}
 use Rattle.spd_syntax.specs.declared.tree.ItemKind.TheVariants as i
 use Rattle.spd_syntax.specs.declared.tree.Item.{Item}
 use Rattle.spd_syntax.specs.declared.tree.Program.{Program}
-use Rattle.spd_check.specs.declared.faults.CheckKind.{CheckKind}
 use Rattle.spd_check.specs.declared.faults.CheckKind.TheVariants.{Unknown, Twice, Arity, AsyncOutside, OfferOutside, PrintPlace, ReturnPlace, AssignOuter, ColumnKind, NoMain, NoReturn}
 use Rattle.spd_check.specs.declared.declared.Entries.{Entries}
 use Rattle.spd_check.specs.declared.declared.Entries.TheVariants.{Ints, Texts}

@@ -7,7 +7,7 @@ use Rattle.spd_syntax.specs.declared.lexing.LexKind.{LexKind}
 use Rattle.spd_syntax.specs.declared.lexing.LexKind.TheVariants as lex
 use Rattle.spd_syntax.specs.declared.fault.ParseKind.{ParseKind}
 use Rattle.spd_syntax.specs.declared.fault.ParseKind.TheVariants as parse
-use Rattle.spd_syntax.specs.Layout.{canonical_text}
+use Rattle.spd_canonical.specs.Layout.{canonical_text}
 use Rattle.spd_check.specs.declared.faults.CheckKind.{CheckKind}
 use Rattle.spd_check.specs.declared.faults.CheckKind.TheVariants as check
 use Rattle.spd_meaning.specs.Eval as eval

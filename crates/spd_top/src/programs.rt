@@ -11,7 +11,8 @@ use spd_check::Code;
 use spd_io::{Sink, write_all_of};
 use spd_machine::ElideRegions;
 use spd_spine::{End, RunError, run_main};
-use spd_syntax::{ItemKind, Program, print_program};
+use spd_canonical::print_program;
+use spd_syntax::{ItemKind, Program};
 use std::alloc::Global;
 
 /// Whether a program declares a column or lines item.

@@ -2,7 +2,7 @@
 use Rattle.std.proofs.Common.{◌++◌}
 use Rattle.std.proofs.lemmas.Result.{err_from_is_err_and}
 use Rattle.spd_check.specs.Names.{name_texts}
-use Rattle.spd_check.specs.Checks.{block_faults, inside_block, expression_faults, twice}
+use Rattle.spd_check.specs.Checks.{block_faults, inside_block, expression_faults}
 use Rattle.spd_check.proofs.Passing.{passes_more, passes_behind, passes_regrouped}
 use Rattle.spd_check.proofs.Equations as equations
 use Rattle.spd_check.proofs.statements.+blocks.Goals as goal
@@ -54,7 +54,7 @@ check_kind-returns-in_err-check_if-in-If-clause-answer t c =
     let second = block_faults c.args.items.now c.in-If.no names c.args.place in
     rw (c.in-If.is, equations.checked_if)
     (passes_regrouped c.from_residual.result cond first second (passes_more _ _ (cond ++ first) second
-        (rw p.2 at p.1) c.in_err-check_if-in-If.ensures.answer))
+    (rw p.2 at p.1) c.in_err-check_if-in-If.ensures.answer))
 
 pub check_kind-returns-in_ok-check_if-in-If-clause-answer : goal.check_kind-returns-in_ok-check_if-in-If-clause-answer
 unfolding block_faults
@@ -66,4 +66,4 @@ check_kind-returns-in_ok-check_if-in-If-clause-answer t c =
     rw (c.in-If.is, equations.checked_if)
     (passes_regrouped c.check_block.result cond first second
     (passes_behind c.check_block.result (cond ++ first) second c.in_ok-check_if-in-If.ensures.answer
-        (rw c.in_ok-check_if-in-If.ensures.names at c.check_block.ensures.answer)))
+    (rw c.in_ok-check_if-in-If.ensures.names at c.check_block.ensures.answer)))

@@ -14,5 +14,5 @@ returns-in_err-check_call-clause-answer c =
     let names = name_texts c.args.names.now.items in
     let found = c.function_arity-arity.ensures ∙ ap (λ (name : List ℕ). function_arity c.args.items.now name) c.as_slice.ensures.entries in
     subst (λ (arity : Option ℕ). Passes c.from_residual.result
-        (call_faults c.args.items.now arity names c.args.line c.args.args.now ++ twice names c.args.name.now c.args.line)) found
+    (call_faults c.args.items.now arity names c.args.line c.args.args.now ++ twice names c.args.name.now c.args.line)) found
     (passes_more _ _ _ _ (rw p.2 at p.1) (rw c.deref.ensures.value at c.in_err-check_call.ensures))

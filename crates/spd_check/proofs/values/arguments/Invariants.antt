@@ -7,4 +7,4 @@ use Rattle.spd_check.proofs.values.arguments.Given as goal
 abbrev pub invariant-loop-expr : goal.invariant-loop-expr
 invariant-loop-expr l =
     l.coded ++ map (expression_code l.spaces (name_texts l.names)) (drop l.expr-index l.expr-items)
-        ≡ map (expression_code l.spaces (name_texts l.names)) l.exprs
+    ≡ map (expression_code l.spaces (name_texts l.names)) l.exprs
