@@ -14,10 +14,10 @@ use Rattle.spd_state.specs.declared.view.View.{View}
 use Rattle.spd_state.proofs.Zero.{none_unfinished, no_unit_under, no_right_there, started_zero, told_once, told_never}
 use Rattle.spd_state.proofs.Over.{roots_zero, none_flies, bodies_started, rests_started}
 use Rattle.spd_state.proofs.Bounds.{drawn_few, bred_few, grown_few}
-use Rattle.spd_rule.specs.Consequences.{IsOver, IsAtEnd, Consequences, EndsAllStarted}
+use Rattle.spd_rule.specs.Consequences.{IsFinished, IsAtEnd, Consequences, EndsAllStarted}
 
 module _ {B : Type 0} (p : PlanView) (a : Dag) (homes : List (maybe.Option (Option B))) (vs : List View) (rule : Rule p a homes vs) where
-  pub is_over : (f : ℕ) → f < p.moves → (a.nodes f).twice ≡ 0 → IsOver p a vs f
+  pub is_over : (f : ℕ) → f < p.moves → (a.nodes f).twice ≡ 0 → IsFinished p a vs f
   is_over f low gone = record {
     none_left = none_unfinished p a homes vs rule f low gone;
     no_unit = no_unit_under p a homes vs rule f low gone;

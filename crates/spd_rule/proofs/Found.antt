@@ -11,7 +11,7 @@ use Rattle.spd_state.specs.declared.view.View.{View}
 use Rattle.spd_state.proofs.Add.{right_counts_there}
 use Rattle.spd_state.proofs.Rights.{unclaimed}
 use Rattle.spd_state.proofs.Settle.{unit_there}
-use Rattle.spd_rule.specs.Consequences.{IsOver}
+use Rattle.spd_rule.specs.Consequences.{IsFinished}
 use Rattle.spd_rule.specs.Held.{StepUnderRule}
 use Rattle.spd_rule.specs.Shares.{FindsHandle}
 use Rattle.spd_rule.proofs.Follows.{node_reads, is_over}
@@ -43,7 +43,7 @@ module _ {B : Type 0} (p : PlanView) (me me' : Me (Option B) View) (found left :
 
 -- where a departure finds the count 1, it leaves 0, and the finish is over
 pub over_at_last : {B : Type 0} (p : PlanView) (me me' : Me (Option B) View) (d found : ℕ) → d < p.moves → (node_of found).twice ≡ 2
-    → (step : StepUnderRule {B = B} p (node_place p d) found ((found + (2 ^ 64 - 2)) % 2 ^ 64) me me') → IsOver p step.kept.dag step.after.views d
+    → (step : StepUnderRule {B = B} p (node_place p d) found ((found + (2 ^ 64 - 2)) % 2 ^ 64) me me') → IsFinished p step.kept.dag step.after.views d
 over_at_last p me me' d found low two step = is_over p step.kept.dag step.after.homes step.after.views step.kept.kept d low root
   where
     left : ℕ

@@ -10,7 +10,7 @@ use Rattle.spd_state.specs.declared.view.View.{View}
 
 -- The finish f is over: none of its vertices is unfinished (stored, running or in flight), no unit is left under its root, and no share may
 -- raise that root.
-pub record IsOver (p : PlanView) (a : Dag) (vs : List View) (f : ℕ) : Type 0 where
+pub record IsFinished (p : PlanView) (a : Dag) (vs : List View) (f : ℕ) : Type 0 where
   pub none_left : unfinished p a vs f ≡ 0
   pub no_unit : (n : ℕ) → Under p a.trees f n → units p a vs n ≡ 0
   pub no_right : Each (λ (v : View). tree_right f v ≡ 0) vs
@@ -24,7 +24,7 @@ pub record IsAtEnd (p : PlanView) (a : Dag) (vs : List View) : Type 0 where
 
 pub record Consequences (p : PlanView) (a : Dag) (vs : List View) : Type 0 where
   -- a root of 0 leaves nothing, and never rises again
-  pub over : (f : ℕ) → f < p.moves → (a.nodes f).twice ≡ 0 → IsOver p a vs f
+  pub over : (f : ℕ) → f < p.moves → (a.nodes f).twice ≡ 0 → IsFinished p a vs f
   -- no finish is told to two shares, nor to one twice
   pub told : (f : ℕ) → f < p.moves → tellers vs f ≤ 1
   -- The waiting vertex of an open finish is ready or started only where the finish's root is 0.

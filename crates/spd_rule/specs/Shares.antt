@@ -8,7 +8,7 @@ use Rattle.spd_state.specs.declared.view.View.{View}
 use Rattle.spd_rule.specs.Steps.{pair_in, StartsVertex, LateStart, DrawsMove}
 use Rattle.spd_words.specs.Words.{Pair, Vertex, node_of, pack_pair, pack_vertex}
 use Rattle.spd_rule.specs.Moves.{MaySetVertex, pair_set}
-use Rattle.spd_rule.specs.Consequences.{IsOver}
+use Rattle.spd_rule.specs.Consequences.{IsFinished}
 use Rattle.spd_rule.specs.Held.{StepUnderRule}
 use Rattle.spd_rule.specs.declared.field.Field.{Field}
 use Rattle.spd_rule.specs.declared.field.Share.{Share}
@@ -73,7 +73,7 @@ FindsHandle q = (q.claims < q.total) × (q.total ≤ 2)
 -- The step at root d found the count 1: it left 0 there, and then the finish d was over.
 abbrev pub OverAtLast : {B : Type 0} → Field B → ℕ → ℕ → Share B → Share B → Type 0
 OverAtLast f d found s t = (node_of found).twice ≡ 2 → (step : SubsUnderRule f (node_place f.plan d) 2 found s t)
-    × IsOver f.plan step.kept.dag step.after.views d
+    × IsFinished f.plan step.kept.dag step.after.views d
 
 -- where the words of a root and of a vertex stand
 abbrev pub root_place : {B : Type 0} → Field B → ℕ → ℕ

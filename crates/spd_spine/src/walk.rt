@@ -70,7 +70,8 @@ pub fn run_main<R: Regions, O: Sink>(
     out: &mut O,
 ) -> Result<End, RunError>
     requires main { KeepsToMain (context_of code.now) }
-    ensures all { OnOk result (Gets (O.state out.old) (O.state out.new) (printed (main_eval (context_of code.now)).given)) }
+    ensures all { OnOk result (Gets (O.state out.old) (O.state out.new)
+        (printed (main_eval (context_of code.now)).given)) }
     ensures end { IfOk result (λ end. EndsSo end (main_eval (context_of code.now)).end) }
     ensures front { OnErr result (GetsFront (O.state out.old) (O.state out.new)
         (printed (main_eval (context_of code.now)).given)) }

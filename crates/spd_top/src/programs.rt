@@ -49,7 +49,8 @@ pub(crate) fn elide<O: Sink, E: Sink>(
 ) -> u8
     ensures told { Tells (elided name.now code.now) (O.state out.old) (O.state out.new)
         (E.state err.old) (E.state err.new) result }
-    ensures cause { result ≡ 5 → Failed (O.state out.old) (O.state out.new) ⊎ Failed (E.state err.old) (E.state err.new) }
+    ensures cause { result ≡ 5 →
+        Failed (O.state out.old) (O.state out.new) ⊎ Failed (E.state err.old) (E.state err.new) }
     ensures out_kept { result ≢ 5 → SameFaults (O.state out.old) (O.state out.new) }
     ensures err_kept { result < 4 → SameFaults (E.state err.old) (E.state err.new) }
 {
@@ -69,7 +70,8 @@ pub(crate) fn elide<O: Sink, E: Sink>(
 pub(crate) fn show<O: Sink, E: Sink>(alloc: Global, code: &Code, out: &mut O, err: &mut E) -> u8
     ensures told { Tells (checked code.now) (O.state out.old) (O.state out.new)
         (E.state err.old) (E.state err.new) result }
-    ensures cause { result ≡ 5 → Failed (O.state out.old) (O.state out.new) ⊎ Failed (E.state err.old) (E.state err.new) }
+    ensures cause { result ≡ 5 →
+        Failed (O.state out.old) (O.state out.new) ⊎ Failed (E.state err.old) (E.state err.new) }
     ensures out_kept { result ≢ 5 → SameFaults (O.state out.old) (O.state out.new) }
     ensures err_kept { result < 4 → SameFaults (E.state err.old) (E.state err.new) }
 {
