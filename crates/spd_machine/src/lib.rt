@@ -8,3 +8,6 @@ mod machine;
 pub use elide::elide_body;
 pub use job::{Job, JobBody, level_of_job};
 pub use machine::{Inside, Machine, Met, with_end};
+
+#[cfg(test)]
+mod tests;
