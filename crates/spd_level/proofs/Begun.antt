@@ -3,7 +3,7 @@ use Rattle.std.proofs.Common.{◌≡◌, ℕ, List, [], ◌∷◌, ◌++◌, sym
 use Rattle.spd_code.specs.declared.stmt.CodeBlock.{CodeBlock}
 use Rattle.spd_code.specs.declared.tree.CodeItem.{CodeItem}
 use Rattle.spd_meaning.specs.Acts.{Acts}
-use Rattle.spd_meaning.specs.Eval.{Eval, call_end, for_finish, back_offered, offer_back}
+use Rattle.spd_meaning.specs.Eval.{call_end, for_finish, back_offered, offer_back}
 use Rattle.spd_code.specs.Coded.{Context, around_of, eval_block}
 use Rattle.spd_code.specs.Places.{fitted}
 use Rattle.spd_level.specs.Left.{level_eval, item_job}

@@ -9,7 +9,7 @@ use Rattle.spd_code.specs.Coded.{Context, around_of, code_deed_step, eval_stmt}
 use Rattle.spd_level.specs.Left.{level_left}
 use Rattle.spd_level.specs.Turn.{LevelTurn}
 use Rattle.spd_code.proofs.Layers.{stmt_is, evaluated}
-use Rattle.spd_level.proofs.Turns.{turned_at}
+use Rattle.spd_level.proofs.Stepping.{turned_at}
 use Rattle.spd_level.specs.declared.level.Level.{Level}
 use Rattle.spd_level.specs.declared.step.Step.{Step}
 

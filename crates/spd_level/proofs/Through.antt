@@ -1,11 +1,11 @@
 -- What is given passes through the frames.
-use Rattle.spd_meaning.proofs.Sequence.{before_both, then_before, behind_before}
+use Rattle.spd_meaning.proofs.Sequence.{then_before, behind_before}
 use Rattle.spd_meaning.specs.Acts.{Acts, Over}
-use Rattle.spd_meaning.specs.Eval.{End, Fell, Back, Fault, Eval, before, go_on, then_do, cut, end_codes, call_left, returned, value_back, back_offered, offer_back}
-use Rattle.spd_code.specs.Coded.{Context, CodeRun}
+use Rattle.spd_meaning.specs.Eval.{Fell, Eval, before, cut, end_codes, call_left, returned, value_back, back_offered, offer_back}
+use Rattle.spd_code.specs.Coded.{Context}
 use Rattle.spd_code.specs.Places.{bind_if}
 use Rattle.spd_level.specs.Left.{frame_left, frames_left, block_rest, loop_rest, level_left, level_eval, level_now}
-use Rattle.std.proofs.Common.{◌≡◌, List, [], ◌∷◌, ◌++◌, refl, sym, ◌∙◌, ap, append_assoc, ℤ}
+use Rattle.std.proofs.Common.{◌≡◌, List, [], ◌∷◌, ◌++◌, refl, ◌∙◌, ap, ℤ}
 use Rattle.spd_level.specs.declared.frame.Frame.{Frame}
 use Rattle.spd_level.specs.declared.frame.Frame.TheVariants as frame
 use Rattle.spd_level.specs.declared.level.Level.{Level}

@@ -1,5 +1,5 @@
 -- What is left of a level: its frames over what runs now.
-use Rattle.std.specs.Prelude.{ℕ, List, [], ◌∷◌, ◌++◌, drop, map, ℤ, ◌-ℤ◌, zero, suc, Result, Ok, Err}
+use Rattle.std.specs.Prelude.{ℕ, List, [], ◌∷◌, ◌++◌, drop, map, ℤ, ◌-ℤ◌, zero, suc, Err}
 use Rattle.spd_code.specs.declared.tree.CodeItem.{CodeItem}
 use Rattle.spd_code.specs.declared.stmt.CodeBlock.{CodeBlock, out-CodeBlock}
 use Rattle.spd_meaning.specs.Values.{too_deep}

@@ -4,11 +4,9 @@ use Rattle.std.specs.Prelude.{min}
 use Rattle.spd_words.specs.Gift.{join}
 use Rattle.spd_words.specs.Total.{Total, total_of}
 use Rattle.spd_meaning.specs.Acts.{Acts, Piece, Begin, heard, passed, work_of}
-use Rattle.spd_level.proofs.Turns.{entered, codes_cut, back_cut}
-use Rattle.spd_meaning.specs.Eval.{Eval, before, call_end, collected, for_finish, end_codes, back_offered, offer_back}
-use Rattle.spd_code.specs.Coded.{Context, around_of, eval_block}
-use Rattle.spd_code.specs.Places.{fitted}
-use Rattle.spd_level.specs.Left.{level_eval, item_job}
+use Rattle.spd_meaning.specs.Eval.{Eval, before, collected, for_finish, end_codes}
+use Rattle.spd_code.specs.Coded.{Context}
+use Rattle.spd_level.specs.Left.{level_eval}
 use Rattle.spd_machine.specs.Machine.{machine_frames, hears, MetPays, insides_left, machine_eval, behind_met, MachineTurn}
 use Rattle.spd_machine.specs.Elision.{will_collect, ElisionTurn}
 use Rattle.spd_meaning.proofs.Sequence.{before_both}
@@ -17,12 +15,6 @@ use Rattle.spd_meaning.proofs.Hearing.{heard_both, work_both}
 use Rattle.spd_machine.proofs.Insides.{insides_passed}
 use Rattle.spd_words.specs.declared.finish_kind.FinishKind.{FinishKind}
 use Rattle.spd_words.specs.declared.tally.Tally.{Tally}
-use Rattle.std.proofs.Common.{Bor, Result}
-use Rattle.spd_code.specs.declared.stmt.CodeBlock.{CodeBlock}
-use Rattle.spd_code.specs.declared.tree.CodeItem.{CodeItem}
-use Rattle.spd_level.specs.declared.level.Level.{Level}
-use Rattle.spd_level.specs.declared.frame.Flow.TheVariants as flow
-use Rattle.spd_level.specs.declared.frame.Frame.TheVariants as frame
 use Rattle.spd_machine.specs.declared.machine.Met.{Met}
 use Rattle.spd_machine.specs.declared.machine.Met.TheVariants as met
 use Rattle.spd_machine.specs.declared.machine.Machine.{Machine}

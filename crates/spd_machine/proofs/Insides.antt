@@ -1,14 +1,11 @@
 -- What a level gives goes through the finishes inside: the innermost collects it, and each passes on the rest.
-use Rattle.std.proofs.Common.{◌≡◌, ℕ, ◌+◌, List, [], ◌∷◌, ◌++◌, refl, sym, ◌∙◌, ap, arith, append_assoc, ℤ, Bor}
-use Rattle.std.specs.Prelude.{min}
-use Rattle.std.proofs.lemmas.Grind.{flat_map-append}
+use Rattle.std.proofs.Common.{◌≡◌, ℕ, ◌+◌, List, [], ◌∷◌, ◌++◌, refl, sym, ◌∙◌, ap, ℤ, Bor}
 use Rattle.spd_meaning.proofs.Collecting.{finish_before, collected_passed, Counts, quiet_counts}
 use Rattle.spd_meaning.proofs.Hearing.{passed_twice, heard_passed, work_passed}
-use Rattle.spd_words.specs.Total.{Total, collect, settle, nothing, begun, total_of}
-use Rattle.spd_words.specs.Gift.{join, joined, gift, least, no_fault, identity}
-use Rattle.spd_words.proofs.Joins.{joined-append, gift-append, least-append, least_le}
-use Rattle.spd_meaning.specs.Acts.{Acts, Piece, Async, Finish, Call, Offer, Code, Line, Begin, Over, Tick, offer_in, code_in, passed_in, offers_of, codes_of, lines_of, passed, moves_of, work_of, said, heard, heard_in, mark_in}
-use Rattle.spd_meaning.specs.Eval.{Eval, quiet, before, collected, for_finish, end_codes, finish_left, finish_end, End, promised_by}
+use Rattle.spd_words.specs.Total.{Total, settle, nothing, begun, total_of}
+use Rattle.spd_words.specs.Gift.{gift, no_fault, identity}
+use Rattle.spd_meaning.specs.Acts.{Acts, Over, passed, work_of, heard}
+use Rattle.spd_meaning.specs.Eval.{Eval, quiet, before, collected, for_finish, end_codes, finish_left, finish_end, End}
 use Rattle.spd_code.specs.Coded.{Context, around_of, eval_block}
 use Rattle.spd_code.specs.Places.{bind_if}
 use Rattle.spd_level.specs.Left.{level_left, level_eval}
@@ -16,7 +13,6 @@ use Rattle.spd_machine.specs.Machine.{inside_left, insides_left}
 use Rattle.spd_level.proofs.Turns.{codes_cut, entered}
 use Rattle.spd_level.proofs.Through.{frames_before}
 use Rattle.spd_words.specs.declared.tally.Tally.{Tally}
-use Rattle.spd_words.specs.declared.finish_kind.FinishKind.{FinishKind}
 use Rattle.spd_code.specs.declared.stmt.CodeBlock.{CodeBlock}
 use Rattle.spd_level.specs.declared.level.Level.{Level}
 use Rattle.spd_level.specs.declared.frame.Frame.TheVariants as frame

@@ -1,4 +1,4 @@
-use Rattle.std.proofs.Common.{◌≡◌, ◌∙◌, ◌+◌, ◌<◌, ◌≤◌, sym, ap, rules, arith, length, length-append, take, [], ◌∷◌, pos}
+use Rattle.std.proofs.Common.{◌≡◌, ◌∙◌, ◌<◌, ◌≤◌, sym, ap, rules, arith, length, length-append, [], ◌∷◌, pos}
 use Rattle.std.proofs.lemmas.List.{length-take}
 use Rattle.spd_code.specs.Places.{fitted}
 use Rattle.spd_code.proofs.JobsAlike.{fitted_all}

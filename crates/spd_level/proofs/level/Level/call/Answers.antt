@@ -3,7 +3,7 @@ use Rattle.std.specs.Prelude.{map, ◌*◌}
 use Rattle.spd_meaning.specs.Values.{all_values}
 use Rattle.spd_code.specs.Coded.{context_of, code_value}
 use Rattle.spd_level.specs.Found.{bare}
-use Rattle.spd_level.proofs.Turns.{call_refused, call_too_deep, call_of_none, call_met}
+use Rattle.spd_level.proofs.Stepping.{call_refused, call_too_deep, call_of_none, call_met}
 use Rattle.spd_level.specs.declared.frame.Flow.TheVariants as flow
 use Rattle.spd_level.specs.declared.step.CallAt.{CallAt}
 use Rattle.spd_level.proofs.level.Level.call.Goals as goal

@@ -1,7 +1,7 @@
 use Rattle.std.proofs.Common.{◌≤◌, refl, rules, length}
 use Rattle.spd_code.specs.declared.stmt.CodeBlock.{out-CodeBlock}
 use Rattle.spd_code.specs.Coded.{context_of}
-use Rattle.spd_level.proofs.Turns.{block_turned, block_ends}
+use Rattle.spd_level.proofs.Stepping.{block_turned, block_ends}
 use Rattle.spd_level.proofs.level.Level.next_of.Goals as goal
 
 pub returns : goal.returns

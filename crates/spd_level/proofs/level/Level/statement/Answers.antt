@@ -10,7 +10,8 @@ use Rattle.spd_code.specs.Places.{bind_if}
 use Rattle.spd_level.specs.Found.{bare}
 use Rattle.spd_level.specs.Left.{level_left, called_in}
 use Rattle.spd_level.proofs.Called.{function_in, task_in}
-use Rattle.spd_level.proofs.Turns.{turned_at, done_turned, inner_turned, met_turned, same_calls}
+use Rattle.spd_level.proofs.Stepping.{turned_at, done_turned, inner_turned, met_turned}
+use Rattle.spd_level.proofs.Turns.{same_calls}
 use Rattle.spd_level.proofs.Rows.{row_turned}
 use Rattle.spd_level.specs.declared.step.Step.TheVariants as step
 use Rattle.spd_level.proofs.level.Level.statement.Goals as goal

@@ -1,7 +1,7 @@
 use Rattle.std.proofs.Common.{refl, rules, w64, FitsSigned}
 use Rattle.std.proofs.lemmas.Int.{to_z-of_z}
 use Rattle.spd_code.specs.Coded.{context_of}
-use Rattle.spd_level.proofs.Turns.{popped_turned, popped_skipped, block_skipped_back, block_skipped_fault, for_skipped_back, for_skipped_fault}
+use Rattle.spd_level.proofs.Stepping.{popped_turned, popped_skipped, block_skipped_back, block_skipped_fault, for_skipped_back, for_skipped_fault}
 use Rattle.spd_level.specs.declared.frame.Frame.TheVariants as frame
 use Rattle.spd_level.specs.declared.step.Step.TheVariants as step
 use Rattle.spd_level.proofs.level.Level.turn.Goals as goal

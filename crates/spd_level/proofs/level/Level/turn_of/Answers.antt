@@ -1,7 +1,7 @@
 use Rattle.std.proofs.Common.{rules, ◌≡◌, ◌+ℤ◌, ◌<ℤ◌, ◌≤ℤ◌, pos, length, arith, FitsSigned, w64, refl}
 use Rattle.std.proofs.lemmas.Int.{ints, to_z-of_z}
 use Rattle.spd_code.specs.Coded.{context_of}
-use Rattle.spd_level.proofs.Turns.{for_turned, for_ended}
+use Rattle.spd_level.proofs.Stepping.{for_turned, for_ended}
 use Rattle.spd_level.proofs.level.Level.turn_of.Goals as goal
 
 pub returns : goal.returns
