@@ -1,0 +1,13 @@
+//! Tests of tasks over codes that are made by hand: all ways to run a job, and its events.
+#![tactic(auto)]
+
+#[cfg(test)]
+mod codes;
+#[cfg(test)]
+mod events;
+#[cfg(test)]
+mod jobs;
+#[cfg(test)]
+mod resumes;
+#[cfg(test)]
+mod ways;
