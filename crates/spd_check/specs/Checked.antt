@@ -11,11 +11,13 @@ use Rattle.spd_code.specs.Silent.{silent_block}
 use Rattle.spd_code.specs.Alike.{AreColumns, valued}
 use Rattle.spd_code.specs.Resolved.{program_code}
 use Rattle.spd_check.specs.Checks.{faults_of}
+use Rattle.spd_check.specs.Lines.{HasLines}
 
 -- It is the code of a program without faults.
 pub record IsChecked (program : Program) (tree : CodeTree) : Type 0 where
   pub passes : faults_of program ≡ []
   pub coded : tree ≡ program_code program.items
+  pub lined : HasLines tree
 
 -- Main of the code, by places, is main of the items, by their own names, whatever the columns hold.
 abbrev pub MeansItself : List Item → CodeTree → Type 0

@@ -4,4 +4,5 @@ pub mod Places
 pub mod Faults
 pub mod Checks
 pub mod Coding
+pub mod Lines
 pub mod Checked

@@ -1,12 +1,14 @@
 // The code of blocks and their statements.
 
-ghost use Rattle.std.specs.Prelude.{◌≡◌, ◌+◌, ◌++◌, [], ◌∷◌, suc, take, IfOk, OnOk};
+ghost use Rattle.std.specs.Prelude.{◌≡◌, ◌+◌, ◌<◌, ◌++◌, [], ◌∷◌, suc, take, true, IfOk, OnOk};
 ghost use Rattle.std.specs.Option.{option_copied};
 ghost use Rattle.spd_code.specs.Resolved.{expression_code, kind_resolved, statement_resolved};
+ghost use Rattle.spd_code.specs.Lined.{lined_block, lined_stmt, lined_kind};
 ghost use Rattle.spd_check.specs.declared.coding.Scope.{Scope};
 ghost use Rattle.spd_check.specs.Names.{name_texts};
 ghost use Rattle.spd_check.specs.Coding.{bound_names, block_coded, block_count, else_coded, else_count};
 
+use crate::coded::CodedStmts;
 use crate::names::{keep_first, to_u32};
 use crate::spaces::SpaceNames;
 use crate::values::{arguments, expression, parts, variable};
@@ -48,9 +50,17 @@ fn bind_name<'a>(names: &mut Vec<&'a [u8]>, what: &'a StmtKind) -> Result<(), Al
     Ok(())
 }
 
+/// A line, which has 32 bits.
+fn line_of(line: u32) -> u32
+    ensures same { result ≡ line }
+    ensures within { result < 4294967296 }
+{
+    line
+}
+
 /// The code of a block, whose number is the next one.
 #[cycle(coding)]
-#[tactic(auto, unfolding(crate::specs::Coding::block_coded, crate::specs::Coding::block_count))]
+#[tactic(auto, unfolding(crate::specs::Coding::block_coded, crate::specs::Coding::block_count), using(crate::proofs::Lined::block_lined))]
 pub(crate) fn code_block<'a>(
     alloc: Global,
     spaces: &SpaceNames,
@@ -59,25 +69,26 @@ pub(crate) fn code_block<'a>(
 ) -> Result<CodeBlock, AllocError>
     ensures code { IfOk result (λ code. code ≡
         block_coded spaces.now block.now (name_texts scope.old.names.items) scope.old.next_block) }
+    ensures lined { IfOk result (λ code. lined_block code ≡ true) }
     ensures names { OnOk result (name_texts scope.new.names.items ≡ name_texts scope.old.names.items) }
     ensures blocks { OnOk result (scope.new.next_block ≡ scope.old.next_block + block_count spaces.now block.now) }
 {
     let visible = scope.names.len();
     let number = take_number(&mut scope.next_block)?;
-    let mut stmts = Seq::new(alloc);
+    let mut stmts = CodedStmts::new(alloc);
     for stmt in block.as_slice() {
         stmts.push(code_stmt(alloc, spaces, scope, stmt)?)?;
     }
     keep_first(&mut scope.names, visible);
     Ok(CodeBlock {
         number: Some(number),
-        stmts,
+        stmts: stmts.into_stmts(),
     })
 }
 
 /// The code of a block behind `else`, which takes no number where it is empty.
 #[cycle(coding)]
-#[tactic(auto, unfolding(crate::specs::Coding::block_coded, crate::specs::Coding::block_count, crate::specs::Coding::else_coded, crate::specs::Coding::else_count))]
+#[tactic(auto, unfolding(crate::specs::Coding::block_coded, crate::specs::Coding::block_count, crate::specs::Coding::else_coded, crate::specs::Coding::else_count), using(crate::proofs::Lined::block_lined, crate::proofs::Lined::no_stmts_lined))]
 fn code_else<'a>(
     alloc: Global,
     spaces: &SpaceNames,
@@ -86,6 +97,7 @@ fn code_else<'a>(
 ) -> Result<CodeBlock, AllocError>
     ensures code { IfOk result (λ code. code ≡
         else_coded spaces.now block.now (name_texts scope.old.names.items) scope.old.next_block) }
+    ensures lined { IfOk result (λ code. lined_block code ≡ true) }
     ensures names { OnOk result (name_texts scope.new.names.items ≡ name_texts scope.old.names.items) }
     ensures blocks { OnOk result (scope.new.next_block ≡ scope.old.next_block + else_count spaces.now block.now) }
 {
@@ -109,16 +121,18 @@ fn code_stmt<'a>(
 ) -> Result<CodeStmt, AllocError>
     ensures code { IfOk result (λ code. code ≡ (statement_resolved spaces.now stmt.now).code
         (name_texts scope.old.names.items) scope.old.next_block) }
+    ensures lined { IfOk result (λ code. lined_stmt code ≡ true) }
     ensures names { OnOk result (name_texts scope.new.names.items ≡
         name_texts scope.old.names.items ++ (statement_resolved spaces.now stmt.now).binds) }
     ensures blocks { OnOk result (scope.new.next_block ≡
         scope.old.next_block + (statement_resolved spaces.now stmt.now).blocks) }
 {
+    let line = line_of(stmt.line);
     let next_block = scope.next_block;
     let what = code_kind(alloc, spaces, scope, &stmt.what)?;
     bind_name(&mut scope.names, &stmt.what)?;
     Ok(CodeStmt {
-        line: stmt.line,
+        line,
         next_block,
         what,
     })
@@ -135,6 +149,7 @@ fn code_turns<'a>(
 ) -> Result<CodeBlock, AllocError>
     ensures code { IfOk result (λ code. code ≡
         block_coded spaces.now body.now (name_texts scope.old.names.items ++ name.now ∷ []) scope.old.next_block) }
+    ensures lined { IfOk result (λ code. lined_block code ≡ true) }
     ensures names { OnOk result (name_texts scope.new.names.items ≡ name_texts scope.old.names.items) }
     ensures blocks { OnOk result (scope.new.next_block ≡ scope.old.next_block + block_count spaces.now body.now) }
 {
@@ -147,6 +162,7 @@ fn code_turns<'a>(
 
 /// The code of what a statement does.
 #[cycle(coding)]
+#[tactic(auto, using(crate::proofs::Lined::lined_let, crate::proofs::Lined::lined_let_call, crate::proofs::Lined::lined_let_finish, crate::proofs::Lined::lined_assign, crate::proofs::Lined::lined_if, crate::proofs::Lined::lined_for, crate::proofs::Lined::lined_async, crate::proofs::Lined::lined_finish, crate::proofs::Lined::lined_offer, crate::proofs::Lined::lined_run, crate::proofs::Lined::lined_return, crate::proofs::Lined::lined_print))]
 fn code_kind<'a>(
     alloc: Global,
     spaces: &SpaceNames,
@@ -155,6 +171,7 @@ fn code_kind<'a>(
 ) -> Result<CodeStmtKind, AllocError>
     ensures code { IfOk result (λ code. code ≡ (kind_resolved spaces.now what.now).code
         (name_texts scope.old.names.items) scope.old.next_block) }
+    ensures lined { IfOk result (λ code. lined_kind code ≡ true) }
     ensures names { OnOk result (name_texts scope.new.names.items ≡ name_texts scope.old.names.items) }
     ensures blocks { OnOk result (scope.new.next_block ≡
         scope.old.next_block + (kind_resolved spaces.now what.now).blocks) }

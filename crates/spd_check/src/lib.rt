@@ -1,6 +1,7 @@
 //! The checks of a program, and its code: the tree with each name as a number.
 #![tactic(auto)]
 
+mod coded;
 mod coding;
 mod declared;
 mod expressions;

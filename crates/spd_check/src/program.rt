@@ -5,6 +5,7 @@ ghost use Rattle.spd_code.specs.Resolved.{program_code};
 ghost use Rattle.spd_check.specs.Checks.{faults_of};
 ghost use Rattle.spd_check.specs.Faults.{Answers};
 ghost use Rattle.spd_check.specs.Checked.{MeansItself, AreSilent};
+ghost use Rattle.spd_check.specs.Lines.{HasLines};
 
 use crate::faults::CheckFault;
 use crate::items::check_program;
@@ -51,6 +52,7 @@ impl Code {
         ensures code { result.now ≡ program_code self.now.items }
         ensures meaning { MeansItself self.now.items result.now }
         ensures silent { AreSilent result.now }
+        ensures lined { HasLines result.now }
     {
         &self.tree
     }

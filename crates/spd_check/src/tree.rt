@@ -1,8 +1,10 @@
 // The code of the items of a program.
 
-ghost use Rattle.std.specs.Prelude.{◌≡◌, ◌+◌, ◌++◌, [], ◌∷◌, length, None, IfOk, OnOk};
+ghost use Rattle.std.specs.Prelude.{◌≡◌, ◌+◌, ◌++◌, [], ◌∷◌, length, true, None, IfOk, OnOk};
 ghost use Rattle.std.specs.List.{last_or};
 ghost use Rattle.spd_code.specs.Resolved as spec;
+ghost use Rattle.spd_code.specs.Lined.{lined_block};
+ghost use Rattle.spd_check.specs.Lines.{HaveLines, HasLines};
 ghost use Rattle.spd_check.specs.Checks.{faults_of};
 ghost use Rattle.spd_check.specs.Names.{name_texts};
 ghost use Rattle.spd_check.specs.Coding.{block_coded, block_count, mains_code, main_code_in};
@@ -48,6 +50,7 @@ fn code_callable(
       params = length params.now;
       body = block_coded spaces.now body.now params.now next_block.old;
     }) }
+    ensures lined { IfOk result (λ item. lined_block item.body ≡ true) }
     ensures blocks { OnOk result (next_block.new ≡ next_block.old + block_count spaces.now body.now) }
 {
     let mut scope = scope_of(alloc, params, *next_block)?;
@@ -79,7 +82,7 @@ fn code_main(
 }
 
 /// Adds the code of an item.
-#[tactic(auto, unfolding(crate::specs::Coding::block_coded, crate::specs::Coding::block_count))]
+#[tactic(auto, unfolding(crate::specs::Coding::block_coded, crate::specs::Coding::block_count), using(crate::proofs::Lined::more_have_lines))]
 fn code_item(
     alloc: Global,
     spaces: &SpaceNames,
@@ -92,6 +95,8 @@ fn code_item(
         coded.old.tasks ++ spec.task_code spaces.now coded.old.next_block item.now.what) }
     ensures main { OnOk result (coded.new.main ≡
         last_or coded.old.main (main_code_in spaces.now coded.old.next_block item.now.what)) }
+    ensures lined_functions { OnOk result (HaveLines coded.old.functions → HaveLines coded.new.functions) }
+    ensures lined_tasks { OnOk result (HaveLines coded.old.tasks → HaveLines coded.new.tasks) }
     ensures blocks { OnOk result (coded.new.next_block ≡
         coded.old.next_block + spec.item_blocks spaces.now item.now.what) }
 {
@@ -116,11 +121,13 @@ fn code_item(
 }
 
 /// The code of all items.
-#[tactic(auto, using(crate::proofs::OneMain::last_append))]
+#[tactic(auto, using(crate::proofs::OneMain::last_append, crate::proofs::Lined::none_lined))]
 fn code_items(alloc: Global, spaces: &SpaceNames, items: &[Item]) -> Result<CodedItems, AllocError>
     ensures functions { IfOk result (λ coded. coded.functions ≡ spec.functions_code spaces.now 0 items.now) }
     ensures tasks { IfOk result (λ coded. coded.tasks ≡ spec.tasks_code spaces.now 0 items.now) }
     ensures main { IfOk result (λ coded. coded.main ≡ last_or None (mains_code spaces.now 0 items.now)) }
+    ensures lined_functions { IfOk result (λ coded. HaveLines coded.functions) }
+    ensures lined_tasks { IfOk result (λ coded. HaveLines coded.tasks) }
 {
     let mut coded = CodedItems {
         functions: Seq::new(alloc),
@@ -138,7 +145,8 @@ fn code_items(alloc: Global, spaces: &SpaceNames, items: &[Item]) -> Result<Code
 #[tactic(auto, using(crate::proofs::OneMain::last_main))]
 pub(crate) fn code_program(alloc: Global, program: &Program) -> Result<CodeTree, AllocError>
     requires { faults_of program.now ≡ [] }
-    ensures { IfOk result (λ code. code ≡ spec.program_code program.now.items) }
+    ensures code { IfOk result (λ code. code ≡ spec.program_code program.now.items) }
+    ensures lined { IfOk result (λ code. HasLines code) }
 {
     let items = program.items.as_slice();
     let spaces = SpaceNames::of(alloc, items)?;

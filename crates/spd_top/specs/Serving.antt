@@ -7,7 +7,9 @@ use Rattle.spd_syntax.specs.Limits.{max_text}
 use Rattle.spd_top.specs.declared.words.Command.{Command}
 use Rattle.spd_top.specs.declared.words.Command.TheVariants.{Elide, Check}
 use Rattle.spd_top.specs.Built.{TextOutcome, ComesTo}
-use Rattle.spd_top.specs.Told.{Bytes, end_of_line, of_file, Told, told_of}
+use Rattle.spd_top.specs.Told.{Bytes, end_of_line, of_file, of_line, lex_word, parse_word, check_word, Told, told_of}
+use Rattle.spd_top.specs.declared.building.BuildError.{BuildError}
+use Rattle.spd_top.specs.declared.building.BuildError.TheVariants as errors
 
 -- ---- words
 
@@ -90,6 +92,13 @@ Says status old new line result = ((result ≡ status) × Takes old new line) �
 -- The answer is 7, for want of memory.
 abbrev pub WantsMemory : SinkState → SinkState → ℕ → Type 0
 WantsMemory old new result = (result ≡ 7) × GetsOrFails old new out_of_memory
+
+-- why a text gave no program was told, unless memory ran out
+abbrev pub RefusesText : Bytes → BuildError → SinkState → SinkState → ℕ → Type 0
+RefusesText name (errors.Lex fault) old new result = Says 1 old new (of_line name fault.line (lex_word fault.kind)) result ⊎ WantsMemory old new result
+RefusesText name (errors.Parse fault) old new result = Says 1 old new (of_line name fault.line (parse_word fault.kind)) result ⊎ WantsMemory old new result
+RefusesText name (errors.Check fault) old new result = Says 1 old new (of_line name fault.line (check_word fault.kind)) result ⊎ WantsMemory old new result
+RefusesText name errors.NoMemory old new result = WantsMemory old new result
 
 -- What was to be told was answered, or a sink failed in it, or memory ran out when `out` had got the first of its bytes.
 pub data Tells (t : Told) (out out' err err' : SinkState) : ℕ → Type 0 where

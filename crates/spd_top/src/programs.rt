@@ -2,29 +2,42 @@
 
 ghost use Rattle.std.specs.Prelude.{◌≡◌, ◌≢◌, ◌<◌, ◌⊎◌};
 ghost use Rattle.spd_io.specs.Sink.{Failed, SameFaults};
-ghost use Rattle.spd_top.specs.Told.{has_columns, elided, checked};
+ghost use Rattle.spd_meaning.specs.Programs.{column_in};
+ghost use Rattle.spd_top.specs.Told.{is_some_name, has_columns, elided, checked};
 ghost use Rattle.spd_top.specs.Serving.{Tells, GetsOrFails, write_failed};
 
 use crate::status;
 use crate::telling::{fail_run, out_of_memory, refuse_program, tell};
+use spd_canonical::print_program;
 use spd_check::Code;
 use spd_io::{Sink, write_all_of};
 use spd_machine::ElideRegions;
 use spd_spine::{End, RunError, run_main};
-use spd_canonical::print_program;
-use spd_syntax::{ItemKind, Program};
+use spd_syntax::{Item, ItemKind};
 use std::alloc::Global;
 
-/// Whether a program declares a column or lines item.
-fn has_columns(program: &Program) -> bool
-    ensures { result ≡ has_columns program.now.items }
+/// Whether an item declares a column, or lines.
+fn is_column(item: &Item) -> bool
+    ensures { result ≡ is_some_name (column_in item.now.what) }
 {
-    for item in program.items.as_slice() {
-        match &item.what {
-            ItemKind::IntColumn { .. } => return true,
-            ItemKind::TextColumn { .. } => return true,
-            ItemKind::Lines { .. } => return true,
-            _ => {}
+    match &item.what {
+        ItemKind::IntColumn { .. } => true,
+        ItemKind::TextColumn { .. } => true,
+        ItemKind::Lines { .. } => true,
+        ItemKind::Function { .. } => false,
+        ItemKind::Task { .. } => false,
+        ItemKind::Main { .. } => false,
+    }
+}
+
+/// Whether one of these items declares a column, or lines.
+#[tactic(auto, using(crate::proofs::Columns::column_first, crate::proofs::Columns::column_next))]
+fn has_columns(items: &[Item]) -> bool
+    ensures { result ≡ has_columns items.now }
+{
+    for item in items {
+        if is_column(item) {
+            return true;
         }
     }
     false
@@ -54,7 +67,7 @@ pub(crate) fn elide<O: Sink, E: Sink>(
     ensures out_kept { result ≢ 5 → SameFaults (O.state out.old) (O.state out.new) }
     ensures err_kept { result < 4 → SameFaults (E.state err.old) (E.state err.new) }
 {
-    if has_columns(code.program()) {
+    if has_columns(code.program().items.as_slice()) {
         return refuse_program(alloc, err, name, "NotBuilt");
     }
     let mut regions = ElideRegions;

@@ -3,7 +3,7 @@
 ghost use Rattle.std.specs.Prelude.{◌≡◌, ◌≢◌, ◌<◌, ◌⊎◌, ℕ, List, [], Some};
 ghost use Rattle.spd_io.specs.Shelf.{FailedAt, ChangesNoOther};
 ghost use Rattle.spd_io.specs.Sink.{Failed, SameFaults};
-ghost use Rattle.spd_top.specs.Serving.{operand_of, words_refused, Says, Answer, HasOneOutcome};
+ghost use Rattle.spd_top.specs.Serving.{operand_of, words_refused, Says, Answer, RefusesText, HasOneOutcome};
 
 use crate::building::{BuildError, build};
 use crate::programs::{elide, show};
@@ -17,6 +17,22 @@ use std::alloc::Global;
 
 /// The greatest number of bytes of a program's text.
 const MAX_TEXT: usize = 1_048_576;
+
+/// Tells why a text gave no program, and answers 1, or 7 for want of memory; or 5 where `err` fails.
+fn refuse_text<E: Sink>(alloc: Global, err: &mut E, name: &str, error: BuildError) -> u8
+    ensures { RefusesText name.now error (E.state err.old) (E.state err.new) result }
+{
+    match error {
+        BuildError::Lex(fault) => refuse_line(alloc, err, name, fault.line, lex_word(fault.kind)),
+        BuildError::Parse(fault) => {
+            refuse_line(alloc, err, name, fault.line, parse_word(fault.kind))
+        }
+        BuildError::Check(fault) => {
+            refuse_line(alloc, err, name, fault.line, check_word(fault.kind))
+        }
+        BuildError::NoMemory => out_of_memory(err),
+    }
+}
 
 /// Does what the words of a command line say, over a shelf of files, a sink for the output and one
 /// for errors, and answers the status that the command ends with.
@@ -64,15 +80,6 @@ pub fn serve_still<F: Shelf, O: Sink, E: Sink>(
             Command::Elide => elide(alloc, name, &code, out, err),
             Command::Check => show(alloc, &code, out, err),
         },
-        Err(BuildError::Lex(fault)) => {
-            refuse_line(alloc, err, name, fault.line, lex_word(fault.kind))
-        }
-        Err(BuildError::Parse(fault)) => {
-            refuse_line(alloc, err, name, fault.line, parse_word(fault.kind))
-        }
-        Err(BuildError::Check(fault)) => {
-            refuse_line(alloc, err, name, fault.line, check_word(fault.kind))
-        }
-        Err(BuildError::NoMemory) => out_of_memory(err),
+        Err(error) => refuse_text(alloc, err, name, error),
     }
 }

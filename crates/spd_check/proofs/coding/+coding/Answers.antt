@@ -6,6 +6,7 @@ use Rattle.spd_code.specs.declared.stmt.CodeStmtKind.TheVariants as w
 use Rattle.spd_code.specs.Resolved.{kind_resolved}
 use Rattle.spd_check.specs.Names.{name_texts}
 use Rattle.spd_check.proofs.CodeEquations as equations
+use Rattle.spd_check.proofs.Lined.{stmt_lined}
 use Rattle.spd_check.proofs.coding.+coding.Goals as goal
 
 pub code_else-returns-clause-code : goal.code_else-returns-clause-code
@@ -100,3 +101,6 @@ code_kind-returns-in_ok-body-in-For-clause-blocks t c =
       ap (λ (k : StmtKind). (kind_resolved c.args.spaces.now k).blocks) c.in-For.is
           ∙ equations.counted_for c.args.spaces.now c.in-For.name c.in-For.from c.in-For.to c.in-For.body,
     )
+
+pub code_stmt-returns-clause-lined : goal.code_stmt-returns-clause-lined
+code_stmt-returns-clause-lined t c = stmt_lined _ c.line_of-line.ensures.within c.in_ok-what.ensures.lined

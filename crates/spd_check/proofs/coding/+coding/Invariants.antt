@@ -6,7 +6,7 @@ use Rattle.spd_check.proofs.coding.+coding.Given as goal
 
 abbrev pub invariant-code_block-loop-stmt : goal.invariant-code_block-loop-stmt
 invariant-code_block-loop-stmt l = record {
-  coded : l.stmts ++ statements_code (map (statement_resolved l.spaces) (drop l.stmt-index l.stmt-items)) (name_texts l.scope.names.items) l.scope.next_block
+  coded : l.stmts.stmts ++ statements_code (map (statement_resolved l.spaces) (drop l.stmt-index l.stmt-items)) (name_texts l.scope.names.items) l.scope.next_block
       ≡ statements_code (map (statement_resolved l.spaces) l.block) (name_texts l.fn.scope.names.items) (suc l.number);
   counted : l.scope.next_block + blocks_within (map (statement_resolved l.spaces) (drop l.stmt-index l.stmt-items))
       ≡ suc l.number + blocks_within (map (statement_resolved l.spaces) l.block);

@@ -1,5 +1,5 @@
 use Rattle.std.proofs.Common.{inr, refl}
-use Rattle.spd_top.proofs.Putting.{front_of}
+use Rattle.spd_spine.proofs.Putting.{front_of}
 use Rattle.spd_top.proofs.telling.say.Goals as goal
 
 pub returns-in-Err : goal.returns-in-Err
