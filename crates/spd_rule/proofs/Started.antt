@@ -23,6 +23,7 @@ module _ {B : Type 0} (z : TableId) (me me' : Me (Option B) View) (b : Beside) (
     claimed = h.claimed;
     told = h.told;
     spare = h.spare;
+    marked = h.marked;
     inside = h.inside;
     flies = h.flies;
     few = h.few;
@@ -47,6 +48,7 @@ module _ {B : Type 0} (z : TableId) (me me' : Me (Option B) View) (b : Beside) (
       claimed = h.claimed;
       told = h.told;
       spare = h.spare;
+      marked = h.marked;
       inside = λ r e. within r (let o : r ≡ start_run i (vertex_of seen) = cc in o);
       flies = h.flies;
       few = h.few;
