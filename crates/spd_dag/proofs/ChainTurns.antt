@@ -5,7 +5,7 @@ use Rattle.spd_words.specs.Plan.{PlanView}
 use Rattle.spd_words.specs.Meaning.{Meaning, BodyView}
 use Rattle.spd_words.specs.declared.finish_kind.FinishKind.{FinishKind}
 use Rattle.spd_state.specs.declared.view.View.{View}
-use Rattle.spd_rule.specs.Held.{StepUnderRule}
+use Rattle.spd_dag.specs.Taken.{TakesStep}
 use Rattle.spd_dag.specs.Acts.{MayChain}
 use Rattle.spd_dag.specs.Draws.{unmoved_known}
 use Rattle.spd_dag.specs.Ends.{IsOver}
@@ -29,12 +29,12 @@ module _ {B : Type 0} (view : B → BodyView) (p : PlanView) (o : Origin B) (old
   drew_at = subst (ChainDrew p o) at h.drew
 
   module _ (new : ChainCall B) (known' : Me (Option B) View) (s' : ChainStage) (here : new.stage ≡ s') (same : new.kind ≡ old.kind) (found : ℕ)
-      (step : StepUnderRule p (chain_place p s) found (chain_writes old.kind o.runs o.known.0.full_draws s found) known known') where
+      (step : TakesStep p (chain_place p s) found (chain_writes old.kind o.runs o.known.0.full_draws s found) known known') where
     pub chain_more : chain_next p.moves s found ≡ chain_goes s' → chain_left s' < chain_left s → known' ≡ chain_known (λ b. (view b).means) o s'
         → ChainHas o s' new.body new.rest → ChainDrew p o s' → ChainTurned view p o old new known known' turn.More
     chain_more next fewer is has drew = record {
       found = found;
-      step = subst (λ (t : ChainStage). StepUnderRule p (chain_place p t) found (chain_writes old.kind o.runs o.known.0.full_draws t found) known known') (sym at) step;
+      step = subst (λ (t : ChainStage). TakesStep p (chain_place p t) found (chain_writes old.kind o.runs o.known.0.full_draws t found) known known') (sym at) step;
       table = subst (λ (t : ChainStage). ChainAnswers {B = B} (chain_next p.moves t found) new.stage turn.More) (sym at)
           (subst (λ (a : AfterChain). ChainAnswers {B = B} a new.stage turn.More) (sym next) (here, refl));
       comes = (
@@ -50,12 +50,12 @@ module _ {B : Type 0} (view : B → BodyView) (p : PlanView) (o : Origin B) (old
 
   -- the last turn
   pub chain_done : (new : ChainCall B) (known' : Me (Option B) View) (d found : ℕ)
-      → StepUnderRule p (chain_place p s) found (chain_writes old.kind o.runs o.known.0.full_draws s found) known known'
+      → TakesStep p (chain_place p s) found (chain_writes old.kind o.runs o.known.0.full_draws s found) known known'
       → chain_next p.moves s found ≡ chain_ends d → 2 * d + 1 < 2 * p.moves → IsOver p o.known.0 known'.0 1 5 × (known'.1 ≡ [])
       → ChainTurned view p o old new known known' (turn.Done (2 * d) (2 * d + 1))
   chain_done new known' d found step next low over = record {
     found = found;
-    step = subst (λ (t : ChainStage). StepUnderRule p (chain_place p t) found (chain_writes old.kind o.runs o.known.0.full_draws t found) known known') (sym at) step;
+    step = subst (λ (t : ChainStage). TakesStep p (chain_place p t) found (chain_writes old.kind o.runs o.known.0.full_draws t found) known known') (sym at) step;
     table = subst (λ (t : ChainStage). ChainAnswers {B = B} (chain_next p.moves t found) new.stage (turn.Done (2 * d) (2 * d + 1))) (sym at)
         (subst (λ (a : AfterChain). ChainAnswers {B = B} a new.stage (turn.Done (2 * d) (2 * d + 1))) (sym next) refl);
     comes = (refl, low, over.0, over.1);
@@ -63,12 +63,12 @@ module _ {B : Type 0} (view : B → BodyView) (p : PlanView) (o : Origin B) (old
 
   -- the turn that finds no move left
   pub chain_full : (new : ChainCall B) (known' : Me (Option B) View) (n : ℕ) (body rest : B)
-      → StepUnderRule p (chain_place p s) n (chain_writes old.kind o.runs o.known.0.full_draws s n) known known'
+      → TakesStep p (chain_place p s) n (chain_writes old.kind o.runs o.known.0.full_draws s n) known known'
       → chain_next p.moves s n ≡ chain_fills n → p.moves ≤ n → body ≡ o.body → rest ≡ o.rest → known' ≡ unmoved_known o.known
       → ChainTurned view p o old new known known' (turn.Full n body rest)
   chain_full new known' n body rest step next least is_body is_rest is = record {
     found = n;
-    step = subst (λ (t : ChainStage). StepUnderRule p (chain_place p t) n (chain_writes old.kind o.runs o.known.0.full_draws t n) known known') (sym at) step;
+    step = subst (λ (t : ChainStage). TakesStep p (chain_place p t) n (chain_writes old.kind o.runs o.known.0.full_draws t n) known known') (sym at) step;
     table = subst (λ (t : ChainStage). ChainAnswers {B = B} (chain_next p.moves t n) new.stage (turn.Full n body rest)) (sym at)
         (subst (λ (a : AfterChain). ChainAnswers {B = B} a new.stage (turn.Full n body rest)) (sym next) (body, rest, refl));
     comes = (least, is_body, is_rest, is);

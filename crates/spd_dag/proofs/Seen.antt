@@ -16,6 +16,7 @@ use Rattle.spd_state.specs.declared.view.Running.{Running}
 use Rattle.spd_state.specs.declared.view.Flight.{Flight}
 use Rattle.spd_state.specs.declared.view.View.{View}
 use Rattle.spd_rule.specs.Held.{StepUnderRule}
+use Rattle.spd_dag.specs.Taken.{TakesStep}
 use Rattle.spd_state.proofs.Rights.{pair_inside, unclaimed, handle_under, running_ok}
 use Rattle.spd_state.proofs.Bounds.{ready_few}
 use Rattle.spd_dag.specs.Origins.{HasDrawn}
@@ -41,20 +42,13 @@ pub traded_known : {B : Type 0} (m m' : Me (Option B) View) (i slot : ℕ) (x go
 traded_known m m' i slot x got put tail a b e = let at : slot ≡ i = sym (slot_front (slot, got) (rest m.1)) ∙ (ap slot_in (sym b ∙ a) ∙ slot_front (i, x) tail) in
     let back : rest m.1 ≡ tail = ap rest a in e ∙ (λ k. (m.0, (at k, put) ∷ back k))
 
--- what lies in slots is nothing to a step
+pub plain_step : {B : Type 0} {p : PlanView} {place found left : ℕ} {m m' : Me (Option B) View} → StepUnderRule p place found left m m' → TakesStep p place found left m m'
+plain_step {m = m} s = record { slots = m.1; step = s }
+
+-- a step behind a trade, which changes slots alone
 pub step_of : {B : Type 0} (p : PlanView) (place found left : ℕ) (n m m' : Me (Option B) View) → n.0 ≡ m.0 → StepUnderRule p place found left m m'
-    → StepUnderRule p place found left n m'
-step_of p place found left n m m' e s = record {
-  before = s.before;
-  after = s.after;
-  seat = s.seat;
-  held = s.held;
-  kept = s.kept;
-  knew = s.knew ∙ ap some (sym e);
-  was = s.was;
-  words = s.words;
-  views = s.views;
-}
+    → TakesStep p place found left n m'
+step_of p place found left n m m' e s = record { slots = m.1; step = subst (λ (v : View). StepUnderRule p place found left (v, m.1) m') (sym e) s }
 
 module _ {B : Type 0} (p : PlanView) (place found left : ℕ) (me me' : Me (Option B) View) (s : StepUnderRule p place found left me me') where
   runs_ok : (r : Running) → me.0.running ≡ Some r → RunOk p s.held.dag.trees s.held.dag.pairs s.held.dag.vertices r

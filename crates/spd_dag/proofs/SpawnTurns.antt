@@ -4,7 +4,7 @@ use Rattle.atomic_table.specs.Table.{Me}
 use Rattle.spd_words.specs.Plan.{PlanView}
 use Rattle.spd_words.specs.Meaning.{Meaning, BodyView}
 use Rattle.spd_state.specs.declared.view.View.{View}
-use Rattle.spd_rule.specs.Held.{StepUnderRule}
+use Rattle.spd_dag.specs.Taken.{TakesStep}
 use Rattle.spd_dag.specs.Draws.{unmoved_known}
 use Rattle.spd_dag.specs.Ends.{IsOver}
 use Rattle.spd_dag.specs.Origins.{Origin, HasDrawn}
@@ -27,12 +27,12 @@ module _ {B : Type 0} (view : B → BodyView) (p : PlanView) (o : Origin B) (old
   drew_at = subst (SpawnDrew p o) at h.drew
 
   module _ (new : SpawnCall B) (known' : Me (Option B) View) (s' : SpawnStage) (here : new.stage ≡ s') (found : ℕ)
-      (step : StepUnderRule p (spawn_place p o.runs s) found (spawn_writes o.runs o.known.0.full_draws s found) known known') where
+      (step : TakesStep p (spawn_place p o.runs s) found (spawn_writes o.runs o.known.0.full_draws s found) known known') where
     pub spawn_more : spawn_next p.moves s found ≡ spawn_goes s' → spawn_left s' < spawn_left s → known' ≡ spawn_known (λ b. (view b).means) o s'
         → SpawnHas o s' new.body new.rest → SpawnDrew p o s' → SpawnTurned view p o old new known known' turn.More
     spawn_more next fewer is has drew = record {
       found = found;
-      step = subst (λ (t : SpawnStage). StepUnderRule p (spawn_place p o.runs t) found (spawn_writes o.runs o.known.0.full_draws t found) known known') (sym at) step;
+      step = subst (λ (t : SpawnStage). TakesStep p (spawn_place p o.runs t) found (spawn_writes o.runs o.known.0.full_draws t found) known known') (sym at) step;
       table = subst (λ (t : SpawnStage). SpawnAnswers {B = B} (spawn_next p.moves t found) new.stage turn.More) (sym at)
           (subst (λ (a : AfterSpawn). SpawnAnswers {B = B} a new.stage turn.More) (sym next) (here, refl));
       comes = (
@@ -48,12 +48,12 @@ module _ {B : Type 0} (view : B → BodyView) (p : PlanView) (o : Origin B) (old
 
   -- the last turn
   pub spawn_done : (new : SpawnCall B) (known' : Me (Option B) View) (d found : ℕ)
-      → StepUnderRule p (spawn_place p o.runs s) found (spawn_writes o.runs o.known.0.full_draws s found) known known'
+      → TakesStep p (spawn_place p o.runs s) found (spawn_writes o.runs o.known.0.full_draws s found) known known'
       → spawn_next p.moves s found ≡ spawn_ends d → 2 * d + 1 < 2 * p.moves → IsOver p o.known.0 known'.0 2 6 × (known'.1 ≡ [])
       → SpawnTurned view p o old new known known' (turn.Done (2 * d) (2 * d + 1))
   spawn_done new known' d found step next low over = record {
     found = found;
-    step = subst (λ (t : SpawnStage). StepUnderRule p (spawn_place p o.runs t) found (spawn_writes o.runs o.known.0.full_draws t found) known known') (sym at) step;
+    step = subst (λ (t : SpawnStage). TakesStep p (spawn_place p o.runs t) found (spawn_writes o.runs o.known.0.full_draws t found) known known') (sym at) step;
     table = subst (λ (t : SpawnStage). SpawnAnswers {B = B} (spawn_next p.moves t found) new.stage (turn.Done (2 * d) (2 * d + 1))) (sym at)
         (subst (λ (a : AfterSpawn). SpawnAnswers {B = B} a new.stage (turn.Done (2 * d) (2 * d + 1))) (sym next) refl);
     comes = (refl, low, over.0, over.1);
@@ -61,12 +61,12 @@ module _ {B : Type 0} (view : B → BodyView) (p : PlanView) (o : Origin B) (old
 
   -- the turn that finds no move left
   pub spawn_full : (new : SpawnCall B) (known' : Me (Option B) View) (n : ℕ) (body rest : B)
-      → StepUnderRule p (spawn_place p o.runs s) n (spawn_writes o.runs o.known.0.full_draws s n) known known'
+      → TakesStep p (spawn_place p o.runs s) n (spawn_writes o.runs o.known.0.full_draws s n) known known'
       → spawn_next p.moves s n ≡ spawn_fills n → p.moves ≤ n → body ≡ o.body → rest ≡ o.rest → known' ≡ unmoved_known o.known
       → SpawnTurned view p o old new known known' (turn.Full n body rest)
   spawn_full new known' n body rest step next least is_body is_rest is = record {
     found = n;
-    step = subst (λ (t : SpawnStage). StepUnderRule p (spawn_place p o.runs t) n (spawn_writes o.runs o.known.0.full_draws t n) known known') (sym at) step;
+    step = subst (λ (t : SpawnStage). TakesStep p (spawn_place p o.runs t) n (spawn_writes o.runs o.known.0.full_draws t n) known known') (sym at) step;
     table = subst (λ (t : SpawnStage). SpawnAnswers {B = B} (spawn_next p.moves t n) new.stage (turn.Full n body rest)) (sym at)
         (subst (λ (a : AfterSpawn). SpawnAnswers {B = B} a new.stage (turn.Full n body rest)) (sym next) (body, rest, refl));
     comes = (least, is_body, is_rest, is);

@@ -8,7 +8,7 @@ use Rattle.spd_state.specs.Stages.{chain_rest_view}
 use Rattle.spd_state.specs.declared.view.Draw.TheVariants.{Chain}
 use Rattle.spd_state.specs.declared.view.Running.{Running}
 use Rattle.spd_state.specs.declared.view.View.{View}
-use Rattle.spd_rule.specs.Held.{StepUnderRule}
+use Rattle.spd_dag.specs.Taken.{TakesStep}
 use Rattle.spd_rule.specs.Nobody.{nobody}
 use Rattle.spd_rule.specs.Steps.{drawn_known}
 use Rattle.spd_rule.specs.Moves.{root_set, pair_set, less_first}
@@ -95,7 +95,7 @@ ChainComes view p o old new known (turn.Full drawn body rest) = (p.moves ≤ dra
 pub record ChainTurned {B : Type 0} (view : B → BodyView) (p : PlanView) (o : Origin B) (old new : ChainCall B)
     (known known' : Me (Option B) View) (result : ChainTurn B) : Type 0 where
   pub found : ℕ
-  pub step : StepUnderRule p (chain_place p old.stage) found
+  pub step : TakesStep p (chain_place p old.stage) found
       (chain_writes old.kind o.runs o.known.0.full_draws old.stage found) known known'
   pub table : ChainAnswers (chain_next p.moves old.stage found) new.stage result
   pub comes : ChainComes view p o old new known' result

@@ -1,5 +1,6 @@
 pub mod Acts
 pub mod Ends
+pub mod Taken
 pub mod Origins
 pub mod Draws
 pub mod ChainStages

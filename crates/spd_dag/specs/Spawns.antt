@@ -8,7 +8,7 @@ use Rattle.spd_state.specs.Stages.{drawn_view, paired_view, spawn_left_view}
 use Rattle.spd_state.specs.declared.view.Draw.TheVariants.{Spawn}
 use Rattle.spd_state.specs.declared.view.Running.{Running}
 use Rattle.spd_state.specs.declared.view.View.{View}
-use Rattle.spd_rule.specs.Held.{StepUnderRule}
+use Rattle.spd_dag.specs.Taken.{TakesStep}
 use Rattle.spd_rule.specs.Nobody.{nobody}
 use Rattle.spd_rule.specs.Moves.{flight_with, less_first}
 use Rattle.spd_rule.specs.Shares.{field_plan, share_known}
@@ -120,7 +120,7 @@ SpawnComes view p o old new known (turn.Full drawn body rest) = (p.moves ≤ dra
 pub record SpawnTurned {B : Type 0} (view : B → BodyView) (p : PlanView) (o : Origin B) (old new : SpawnCall B)
     (known known' : Me (Option B) View) (result : SpawnTurn B) : Type 0 where
   pub found : ℕ
-  pub step : StepUnderRule p (spawn_place p o.runs old.stage) found
+  pub step : TakesStep p (spawn_place p o.runs old.stage) found
       (spawn_writes o.runs o.known.0.full_draws old.stage found) known known'
   pub table : SpawnAnswers (spawn_next p.moves old.stage found) new.stage result
   pub comes : SpawnComes view p o old new known' result

@@ -10,7 +10,7 @@ use Rattle.spd_dag.specs.Draws.{MayDrawOrSee, draw_writes, unmoved_known}
 use Rattle.spd_dag.specs.ChainStages.{AfterChain, chain_goes, chain_fills}
 use Rattle.spd_dag.specs.Chains.{chain_drawn}
 use Rattle.spd_dag.specs.declared.chain.ChainStage.TheVariants as stage
-use Rattle.spd_dag.proofs.Seen.{has_drawn, same_some}
+use Rattle.spd_dag.proofs.Seen.{has_drawn, same_some, plain_step}
 use Rattle.spd_dag.proofs.Chaining.{chain_may_draw}
 use Rattle.spd_dag.proofs.ChainTurns.{known_at, has_at, chain_more, chain_full}
 use Rattle.spd_dag.proofs.chain.ChainCall.draw.Goals as goal
@@ -29,7 +29,7 @@ returns-then-drawn-from-clause-turned g c = λ o h. let v = g.B.Body.view in let
     let e : c.plan.result.moves ≡ p.moves = ap (λ (q : PlanView). q.moves) c.plan.ensures in omega arith in
     let own = h.may.acts in
     chain_more v p o old me h stage.Draw c.requires.stage (record old { stage = stage.Root d }) me' (stage.Root d) refl refl d
-    (subst (λ (m : Me (Option g.row.B.Denot) View). StepUnderRule p moves_place d (draw_writes m.0.full_draws d) me me') at rule)
+    (plain_step (subst (λ (m : Me (Option g.row.B.Denot) View). StepUnderRule p moves_place d (draw_writes m.0.full_draws d) me me') at rule))
     (ap (λ (b : Bool). cond b (chain_goes (stage.Root d)) (chain_fills d)) (lt-ltb d p.moves low))
     (omega arith) (c.draw_or_see-drawn.ensures.drawn low ∙ ap (chain_drawn d) at)
     (has_at v p o old me h stage.Draw c.requires.stage)
@@ -45,7 +45,7 @@ returns-clause-turned g c = λ o h. let v = g.B.Body.view in let p = c.args.fiel
     let e : c.plan.result.moves ≡ p.moves = ap (λ (q : PlanView). q.moves) c.plan.ensures in omega arith in
     let has = has_at v p o old me h stage.Draw c.requires.stage in
     chain_full v p o old me h stage.Draw c.requires.stage (record old { body = c.take.new.self; rest = c.take-2.new.self }) me' d c.in-Some.body c.in-Some-take.rest
-    (subst (λ (m : Me (Option g.row.B.Denot) View). StepUnderRule p moves_place d (draw_writes m.0.full_draws d) me me') at rule)
+    (plain_step (subst (λ (m : Me (Option g.row.B.Denot) View). StepUnderRule p moves_place d (draw_writes m.0.full_draws d) me me') at rule))
     (ap (λ (b : Bool). cond b (chain_goes (stage.Root d)) (chain_fills d)) (le-ltb d p.moves least)) least
     (same_some c.in-Some.body o.body c.take.result c.in-Some.is (c.take.ensures.value ∙ has.0))
     (same_some c.in-Some-take.rest o.rest c.take-2.result c.in-Some-take.is (c.take-2.ensures.value ∙ has.1))

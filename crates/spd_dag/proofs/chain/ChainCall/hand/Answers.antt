@@ -8,6 +8,7 @@ use Rattle.spd_rule.specs.Nobody.{nobody}
 use Rattle.spd_rule.specs.Moves.{MaySetPair, fresh_pair, pair_kind}
 use Rattle.spd_dag.specs.Chains.{chain_handed}
 use Rattle.spd_dag.specs.declared.chain.ChainStage.TheVariants as stage
+use Rattle.spd_dag.proofs.Seen.{plain_step}
 use Rattle.spd_dag.proofs.Chaining.{chain_may_pair}
 use Rattle.spd_dag.proofs.ChainTurns.{known_at, has_at, drew_at, chain_more}
 use Rattle.spd_dag.proofs.chain.ChainCall.hand.Goals as goal
@@ -28,7 +29,7 @@ pub returns-clause-turned : goal.returns-clause-turned
 returns-clause-turned g c = λ o h. let v = g.B.Body.view in let p = c.args.field.now.plan in let d : ℕ = c.args.d in let old = c.args.self.now in
     let me = c.args.share.now.seat.me in let me' = c.set_pair.new.share.seat.me in let rule = c.set_pair.ensures.rule in
     let at = known_at v p o old me h (stage.Pair d) c.requires.stage in
-    chain_more v p o old me h (stage.Pair d) c.requires.stage (record old { stage = stage.Rest d }) me' (stage.Rest d) refl refl rule.0
-    (subst (λ (k : ℕ). StepUnderRule p (pair_place p d) rule.0 (pack_pair (pair_with 0 1 k d 0)) me me') c.kind_number-kind.ensures rule.1)
+    chain_more v p o old me h (stage.Pair d) c.requires.stage (record old { stage = stage.Rest d }) me' (stage.Rest d) refl refl 0
+    (plain_step (subst (λ (k : ℕ). StepUnderRule p (pair_place p d) 0 (pack_pair (pair_with 0 1 k d 0)) me me') c.kind_number-kind.ensures rule))
     refl (omega arith) (c.set_pair.ensures.view ∙ ap chain_handed at) (has_at v p o old me h (stage.Pair d) c.requires.stage)
     (drew_at v p o old me h (stage.Pair d) c.requires.stage)

@@ -5,7 +5,7 @@ use Rattle.spd_state.specs.declared.view.View.{View}
 use Rattle.spd_rule.specs.Moves.{MaySetRoot}
 use Rattle.spd_dag.specs.Chains.{chain_opened}
 use Rattle.spd_dag.specs.declared.chain.ChainStage.TheVariants as stage
-use Rattle.spd_dag.proofs.Seen.{same_some}
+use Rattle.spd_dag.proofs.Seen.{same_some, plain_step}
 use Rattle.spd_dag.proofs.Chaining.{chain_may_root}
 use Rattle.spd_dag.proofs.ChainTurns.{known_at, has_at, drew_at, chain_more}
 use Rattle.spd_dag.proofs.chain.ChainCall.open.Goals as goal
@@ -23,7 +23,7 @@ returns-clause-turned g c = λ o h. let v = g.B.Body.view in let p = c.args.fiel
     let me = c.args.share.now.seat.me in let me' = c.set_root_of.new.share.seat.me in let rule = c.set_root_of.ensures.rule in
     let at = known_at v p o old me h (stage.Root d) c.requires.stage in let has = has_at v p o old me h (stage.Root d) c.requires.stage in
     let body : c.in-Some.body ≡ o.body = same_some c.in-Some.body o.body old.body c.in-Some.is has.0 in
-    chain_more v p o old me h (stage.Root d) c.requires.stage (record old { stage = stage.Pair d }) me' (stage.Pair d) refl refl rule.0 rule.1
+    chain_more v p o old me h (stage.Root d) c.requires.stage (record old { stage = stage.Pair d }) me' (stage.Pair d) refl refl 0 (plain_step rule)
     refl (omega arith)
     (c.set_root_of.ensures.view ∙ (ap (λ (b : g.row.B.Denot). chain_opened d (v b).means me) body ∙ ap (chain_opened d (v o.body).means) at))
     has (drew_at v p o old me h (stage.Root d) c.requires.stage)

@@ -41,7 +41,7 @@ returns-clause-turned g c = λ o h. let v = g.B.Body.view in let d : ℕ = c.arg
     let t = c.trade.ensures.traded in let m = c.trade.new.share.seat.me in let m' = c.set_vertex.new.share.seat.me in let rule = c.set_vertex.ensures.rule in
     let e : m ≡ (k.0, (2 * d, c.take.result) ∷ rest k.1) = traded_at k me m (2 * d) t.slot None c.trade.result c.take.result (rest k.1) at refl t.before t.after in
     let w = drew_at v p o old me h (stage.Body d) c.requires.stage in let l = w.low in
-    chain_done v p o old me h (stage.Body d) c.requires.stage (record old { body = c.take.new.self }) m' d rule.0
-    (step_of p (vertex_place p (2 * d)) rule.0 (pack_vertex (body_vertex d)) me m m' (sym (ap (λ (n : Me (Option g.row.B.Denot) View). n.0) t.after)) rule.1)
+    chain_done v p o old me h (stage.Body d) c.requires.stage (record old { body = c.take.new.self }) m' d 0
+    (step_of p (vertex_place p (2 * d)) 0 (pack_vertex (body_vertex d)) me m m' (sym (ap (λ (n : Me (Option g.row.B.Denot) View). n.0) t.after)) rule)
     refl (omega arith)
     (chain_over v o old.kind h.may d p w m' c.take.result (c.set_vertex.ensures.view ∙ ap (λ (n : Me (Option g.row.B.Denot) View). at_rest (vertex_set n)) e) c.set_vertex.ensures.few)

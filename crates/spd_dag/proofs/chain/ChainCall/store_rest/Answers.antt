@@ -54,8 +54,8 @@ returns-clause-turned g c = λ o h. let v = g.B.Body.view in let d : ℕ = c.arg
     let t = c.trade.ensures.traded in let m = c.trade.new.share.seat.me in let m' = c.set_vertex.new.share.seat.me in let rule = c.set_vertex.ensures.rule in
     let e : m ≡ (k.0, (2 * d + 1, c.take.result) ∷ rest k.1) = traded_at k me m (2 * d + 1) t.slot None c.trade.result c.take.result (rest k.1) at refl t.before t.after in
     let has = has_at v p o old me h (stage.Rest d) c.requires.stage in
-    chain_more v p o old me h (stage.Rest d) c.requires.stage (record old { rest = c.take.new.self; stage = stage.Body d }) m' (stage.Body d) refl refl rule.0
-    (step_of p (vertex_place p (2 * d + 1)) rule.0 (pack_vertex (chain_rest_vertex o.runs)) me m m' (sym (ap (λ (n : Me (Option g.row.B.Denot) View). n.0) t.after))
-    (subst (λ (x : Running). StepUnderRule p (vertex_place p (2 * d + 1)) rule.0 (pack_vertex (chain_rest_vertex x)) m m') r rule.1))
+    chain_more v p o old me h (stage.Rest d) c.requires.stage (record old { rest = c.take.new.self; stage = stage.Body d }) m' (stage.Body d) refl refl 0
+    (step_of p (vertex_place p (2 * d + 1)) 0 (pack_vertex (chain_rest_vertex o.runs)) me m m' (sym (ap (λ (n : Me (Option g.row.B.Denot) View). n.0) t.after))
+    (subst (λ (x : Running). StepUnderRule p (vertex_place p (2 * d + 1)) 0 (pack_vertex (chain_rest_vertex x)) m m') r rule))
     refl (omega arith) (c.set_vertex.ensures.view ∙ (ap (λ (n : Me (Option g.row.B.Denot) View). at_rest (vertex_set n)) e ∙ rest_stored v o old.kind h.may d c.take.result))
     has.0 (drew_at v p o old me h (stage.Rest d) c.requires.stage)

@@ -7,7 +7,7 @@ use Rattle.spd_rule.specs.Held.{StepUnderRule}
 use Rattle.spd_rule.specs.Steps.{MayAdd}
 use Rattle.spd_dag.specs.Spawns.{spawn_arrived}
 use Rattle.spd_dag.specs.declared.spawn.SpawnStage.TheVariants as stage
-use Rattle.spd_dag.proofs.Seen.{same_some}
+use Rattle.spd_dag.proofs.Seen.{same_some, plain_step}
 use Rattle.spd_dag.proofs.Spawning.{spawn_may_add}
 use Rattle.spd_dag.proofs.SpawnTurns.{known_at, has_at, drew_at, spawn_more}
 use Rattle.spd_dag.proofs.spawn.SpawnCall.arrive.Goals as goal
@@ -37,6 +37,6 @@ returns-clause-turned g c = λ o h. let v = g.B.Body.view in let p = c.args.fiel
     (ap (λ (m : Me (Option g.row.B.Denot) View). m.0.running) at) in
     let me' = c.add_root.new.share.seat.me in let w : ℕ = c.add_root.result in
     spawn_more v p o old me h st c.requires.stage (record old { stage = stage.Claim d }) me' (stage.Claim d) refl w
-    (subst (λ (x : Running). StepUnderRule p (node_place p x.inc) w ((w + 2) % 2 ^ 64) me me') r c.add_root.ensures.rule) refl (omega arith)
+    (plain_step (subst (λ (x : Running). StepUnderRule p (node_place p x.inc) w ((w + 2) % 2 ^ 64) me me') r c.add_root.ensures.rule)) refl (omega arith)
     (c.add_root.ensures.view ∙ (ap (λ (x : Running). spawn_arrived x me) r ∙ ap (spawn_arrived o.runs) at))
     (has_at v p o old me h st c.requires.stage) (drew_at v p o old me h st c.requires.stage)

@@ -7,7 +7,7 @@ use Rattle.spd_state.specs.declared.view.View.{View}
 use Rattle.spd_rule.specs.Held.{StepUnderRule}
 use Rattle.spd_rule.specs.Steps.{MayClaim, pair_in, claim_known}
 use Rattle.spd_dag.specs.declared.spawn.SpawnStage.TheVariants as stage
-use Rattle.spd_dag.proofs.Seen.{claims_few, has_claimed}
+use Rattle.spd_dag.proofs.Seen.{claims_few, has_claimed, plain_step}
 use Rattle.spd_dag.proofs.Spawning.{spawn_may_claim}
 use Rattle.spd_dag.proofs.SpawnTurns.{known_at, has_at, drew_at, spawn_more}
 use Rattle.spd_dag.proofs.spawn.SpawnCall.claim.Goals as goal
@@ -33,7 +33,7 @@ returns-clause-turned g c = λ o h. let v = g.B.Body.view in let p = c.args.fiel
     let is : me.0.running ≡ Some o.runs = ap (λ (m : Me (Option g.row.B.Denot) View). m.0.running) at in
     let rule = subst (λ (q : ℕ). StepUnderRule p (pair_place p q) n ((n + 1) % 2 ^ 64) me me') (ap pair_in is) c.claim-pair.ensures.rule in
     spawn_more v p o old me h st c.requires.stage (record old { stage = stage.Pair d c.next_of.result }) me' (stage.Pair d (next_handle (pair_of n)))
-    (ap (λ (k : ℕ). stage.Pair d k) next) n rule refl (omega arith)
+    (ap (λ (k : ℕ). stage.Pair d k) next) n (plain_step rule) refl (omega arith)
     (c.claim-pair.ensures.view ∙ ap (claim_known (pair_of n)) at)
     (has_at v p o old me h st c.requires.stage)
     (drew_at v p o old me h st c.requires.stage, (has_claimed p n ((n + 1) % 2 ^ 64) o.runs me me' rule is h.may.cuts.acts.right c.args.field.now.flat).low)

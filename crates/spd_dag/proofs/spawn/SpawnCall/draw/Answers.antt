@@ -11,7 +11,7 @@ use Rattle.spd_dag.specs.SpawnStages.{spawn_goes, spawn_fills}
 use Rattle.spd_rule.specs.Nobody.{nobody}
 use Rattle.spd_rule.specs.Steps.{drawn_known}
 use Rattle.spd_dag.specs.declared.spawn.SpawnStage.TheVariants as stage
-use Rattle.spd_dag.proofs.Seen.{has_drawn, inc_shown, drew_spawn, same_some}
+use Rattle.spd_dag.proofs.Seen.{has_drawn, inc_shown, drew_spawn, same_some, plain_step}
 use Rattle.spd_dag.proofs.Spawning.{spawn_may_draw, spawn_draws}
 use Rattle.spd_dag.proofs.SpawnTurns.{known_at, has_at, spawn_more, spawn_full}
 use Rattle.spd_dag.proofs.spawn.SpawnCall.draw.Goals as goal
@@ -30,7 +30,7 @@ returns-then-drawn-from-clause-turned g c = λ o h. let v = g.B.Body.view in let
     let e : c.plan.result.moves ≡ p.moves = ap (λ (q : PlanView). q.moves) c.plan.ensures in omega arith in
     let own = h.may.cuts.acts in let is = ap (λ (m : Me (Option g.row.B.Denot) View). m.0.running) at ∙ own.running in
     spawn_more v p o old me h stage.Draw c.requires.stage (record old { stage = stage.Arrive d }) me' (stage.Arrive d) refl d
-    (subst (λ (m : Me (Option g.row.B.Denot) View). StepUnderRule p moves_place d (draw_writes m.0.full_draws d) me me') at rule)
+    (plain_step (subst (λ (m : Me (Option g.row.B.Denot) View). StepUnderRule p moves_place d (draw_writes m.0.full_draws d) me me') at rule))
     (ap (λ (b : Bool). cond b (spawn_goes (stage.Arrive d)) (spawn_fills d)) (lt-ltb d p.moves low))
     (omega arith) (c.draw_or_see-drawn.ensures.drawn low ∙ (ap (drawn_known Spawn d nobody) at ∙ spawn_draws v o h.may d))
     (has_at v p o old me h stage.Draw c.requires.stage)
@@ -47,7 +47,7 @@ returns-clause-turned g c = λ o h. let v = g.B.Body.view in let p = c.args.fiel
     let e : c.plan.result.moves ≡ p.moves = ap (λ (q : PlanView). q.moves) c.plan.ensures in omega arith in
     let has = has_at v p o old me h stage.Draw c.requires.stage in
     spawn_full v p o old me h stage.Draw c.requires.stage (record old { body = c.take.new.self; rest = c.take-2.new.self }) me' d c.in-Some.body c.in-Some-take.rest
-    (subst (λ (m : Me (Option g.row.B.Denot) View). StepUnderRule p moves_place d (draw_writes m.0.full_draws d) me me') at rule)
+    (plain_step (subst (λ (m : Me (Option g.row.B.Denot) View). StepUnderRule p moves_place d (draw_writes m.0.full_draws d) me me') at rule))
     (ap (λ (b : Bool). cond b (spawn_goes (stage.Arrive d)) (spawn_fills d)) (le-ltb d p.moves least)) least
     (same_some c.in-Some.body o.body c.take.result c.in-Some.is (c.take.ensures.value ∙ has.0))
     (same_some c.in-Some-take.rest o.rest c.take-2.result c.in-Some-take.is (c.take-2.ensures.value ∙ has.1))

@@ -9,7 +9,7 @@ use Rattle.spd_state.specs.declared.view.View.{View}
 use Rattle.spd_rule.specs.Held.{StepUnderRule}
 use Rattle.spd_rule.specs.Moves.{MaySetPair, fresh_pair, pair_set, IsPairOf}
 use Rattle.spd_dag.specs.declared.spawn.SpawnStage.TheVariants as stage
-use Rattle.spd_dag.proofs.Seen.{same_some}
+use Rattle.spd_dag.proofs.Seen.{same_some, plain_step}
 use Rattle.spd_dag.proofs.Spawning.{spawn_may_pair, spawn_pairs}
 use Rattle.spd_dag.proofs.SpawnTurns.{known_at, has_at, drew_at, spawn_more}
 use Rattle.spd_dag.proofs.spawn.SpawnCall.pair.Goals as goal
@@ -44,7 +44,7 @@ returns-clause-turned g c = λ o h. let v = g.B.Body.view in let d : ℕ = c.arg
     let b = same_some c.in-Some-body.body o.body old.body c.in-Some-body.is has.0 in let q = same_some c.in-Some-rest.rest o.rest old.rest c.in-Some-rest.is has.1 in
     let me' = c.set_pair_of.new.share.seat.me in let rule = c.set_pair_of.ensures.rule in
     let sets : ℕ → Meaning → Meaning → Me (Option g.row.B.Denot) View → Me (Option g.row.B.Denot) View = λ k x y m. (pair_set m.0.flight k x y m.0, m.1) in
-    spawn_more v p o old me h st c.requires.stage (record old { stage = stage.Left d }) me' (stage.Left d) refl rule.0
-    (subst (λ (x : Running). StepUnderRule p (pair_place p d) rule.0 (pack_pair (spawn_pair n x.inc)) me me') r rule.1) refl (omega arith)
+    spawn_more v p o old me h st c.requires.stage (record old { stage = stage.Left d }) me' (stage.Left d) refl 0
+    (plain_step (subst (λ (x : Running). StepUnderRule p (pair_place p d) 0 (pack_pair (spawn_pair n x.inc)) me me') r rule)) refl (omega arith)
     (c.set_pair_of.ensures.view ∙ ((λ i. sets (r i).inc (v (b i)).means (v (q i)).means (at i)) ∙ spawn_pairs v o h.may d n))
     has (drew_at v p o old me h st c.requires.stage).0

@@ -52,9 +52,9 @@ returns-clause-turned g c = λ o h. let v = g.B.Body.view in let d : ℕ = c.arg
     let t = c.trade.ensures.traded in let m = c.trade.new.share.seat.me in let m' = c.set_vertex.new.share.seat.me in let rule = c.set_vertex.ensures.rule in
     let e : m ≡ (k.0, (2 * d, c.take.result) ∷ rest k.1) = traded_at k me m (2 * d) t.slot None c.trade.result c.take.result (rest k.1) at refl t.before t.after in
     let has = has_at v p o old me h (stage.Left d) c.requires.stage in
-    spawn_more v p o old me h (stage.Left d) c.requires.stage (record old { body = c.take.new.self; stage = stage.Right d }) m' (stage.Right d) refl rule.0
-    (step_of p (vertex_place p (2 * d)) rule.0 (pack_vertex (spawn_vertex d o.runs.finish 0 o.runs.inc)) me m m'
+    spawn_more v p o old me h (stage.Left d) c.requires.stage (record old { body = c.take.new.self; stage = stage.Right d }) m' (stage.Right d) refl 0
+    (step_of p (vertex_place p (2 * d)) 0 (pack_vertex (spawn_vertex d o.runs.finish 0 o.runs.inc)) me m m'
     (sym (ap (λ (n : Me (Option g.row.B.Denot) View). n.0) t.after))
-    (subst (λ (x : Running). StepUnderRule p (vertex_place p (2 * d)) rule.0 (pack_vertex (spawn_vertex d x.finish 0 x.inc)) m m') r rule.1))
+    (subst (λ (x : Running). StepUnderRule p (vertex_place p (2 * d)) 0 (pack_vertex (spawn_vertex d x.finish 0 x.inc)) m m') r rule))
     refl (omega arith) (c.set_vertex.ensures.view ∙ (ap (λ (n : Me (Option g.row.B.Denot) View). at_rest (vertex_set n)) e ∙ left_stored v o h.may d c.take.result))
     has.1 (drew_at v p o old me h (stage.Left d) c.requires.stage)

@@ -52,10 +52,10 @@ returns-clause-turned g c = λ o h. let v = g.B.Body.view in let d : ℕ = c.arg
     let t = c.trade.ensures.traded in let m = c.trade.new.share.seat.me in let m' = c.set_vertex.new.share.seat.me in let rule = c.set_vertex.ensures.rule in
     let e : m ≡ (k.0, (2 * d + 1, c.take.result) ∷ rest k.1) = traded_at k me m (2 * d + 1) t.slot None c.trade.result c.take.result (rest k.1) at refl t.before t.after in
     let w = drew_at v p o old me h (stage.Right d) c.requires.stage in let l = w.drawn.low in
-    spawn_done v p o old me h (stage.Right d) c.requires.stage (record old { rest = c.take.new.self }) m' d rule.0
-    (step_of p (vertex_place p (2 * d + 1)) rule.0 (pack_vertex (spawn_vertex d o.runs.finish 1 o.runs.inc)) me m m'
+    spawn_done v p o old me h (stage.Right d) c.requires.stage (record old { rest = c.take.new.self }) m' d 0
+    (step_of p (vertex_place p (2 * d + 1)) 0 (pack_vertex (spawn_vertex d o.runs.finish 1 o.runs.inc)) me m m'
     (sym (ap (λ (n : Me (Option g.row.B.Denot) View). n.0) t.after))
-    (subst (λ (x : Running). StepUnderRule p (vertex_place p (2 * d + 1)) rule.0 (pack_vertex (spawn_vertex d x.finish 1 x.inc)) m m') r rule.1))
+    (subst (λ (x : Running). StepUnderRule p (vertex_place p (2 * d + 1)) 0 (pack_vertex (spawn_vertex d x.finish 1 x.inc)) m m') r rule))
     refl (omega arith)
     (spawn_over v o h.may d p w.drawn m' c.take.result (c.set_vertex.ensures.view ∙ ap (λ (n : Me (Option g.row.B.Denot) View). at_rest (vertex_set n)) e)
     c.set_vertex.ensures.few)
