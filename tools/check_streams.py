@@ -37,9 +37,22 @@ FILES = {
     "\u00e9.sp".encode(): b"main { print 5; }\n",
     b"bytes.sp": b"main {\n print \"\xff\";\n}\n",
     b"folder.sp/a:b.sp": b"main { }\n}\n",
+    b"late.sp": b"main {\n let z = 0;\n print 7;\n print 7 / z;\n}\n",
+    b"early.sp": b"main {\n let z = 0;\n print 7 % z;\n}\n",
+    b"column.sp": b'lines l from"l.txt";main{print len( l );}\n',
+    b"stray.sp": b"main {\n print x;\n}\n",
+    b"wide.sp": b"main{" + b"print 1;" * 10_000 + b"}",
 }
 
-# Programs that are refused, each with the line that tells why beside it.
+# The canonical texts of some of them.
+PLAIN = b'main {\n  print "n=", 1 + 2;\n}\n'
+LATE = b"main {\n  let z = 0;\n  print 7;\n  print 7 / z;\n}\n"
+COLUMN = b'lines l from "l.txt";\nmain {\n  print len(l);\n}\n'
+WIDE = b"main {\n" + b"  print 1;\n" * 10_000 + b"}\n"
+FILES[b"plain.sp"] = PLAIN
+
+# Programs with a fault, each with the line that tells it beside it. One that faults only as it runs has
+# beside it what it writes before.
 FAULTS = sorted(pathlib.Path("examples/faults").glob("*.sp"))
 FILES |= {os.fsencode(it.name): it.read_bytes() for it in FAULTS}
 
@@ -74,6 +87,25 @@ NOT_WRITTEN = b"spd: write failed\n"
 ROWS = [
     Row("a program", [b"elide", b"a.sp"], 0, b"n=3\n"),
     Row("a program that prints nothing", [b"elide", b"none.sp"], 0),
+    Row("a fault of a run", [b"elide", b"late.sp"], 3, b"7\n", b"spd: late.sp:4: division by zero\n"),
+    Row("a fault before the first print", [b"elide", b"early.sp"], 3, err=b"spd: early.sp:3: division by zero\n"),
+    Row("a fault of the checks", [b"elide", b"stray.sp"], 1, err=b"spd: stray.sp:2: Unknown\n"),
+    Row("a lines item", [b"elide", b"column.sp"], 1, err=b"spd: column.sp: NotBuilt\n"),
+    # The canonical text.
+    Row("a canonical text", [b"check", b"a.sp"], 0, PLAIN),
+    Row("that of a canonical text", [b"check", b"plain.sp"], 0, PLAIN),
+    Row("that of a program that faults in its run", [b"check", b"late.sp"], 0, LATE),
+    Row("that of a program with a lines item", [b"check", b"column.sp"], 0, COLUMN),
+    Row("that of a program that prints nothing", [b"check", b"none.sp"], 0, b"main {\n}\n"),
+    Row("a long canonical text", [b"check", b"wide.sp"], 0, WIDE),
+    Row("a fault of the checks under check", [b"check", b"stray.sp"], 1, err=b"spd: stray.sp:2: Unknown\n"),
+    Row("a fault of tokens under check", [b"check", b"bytes.sp"], 1, err=b"spd: bytes.sp:2: BadByte\n"),
+    Row("an empty file under check", [b"check", b"empty.sp"], 1, err=b"spd: empty.sp:1: NoMain\n"),
+    Row("a file of a byte more under check", [b"check", b"more.sp"], 1, err=b"spd: more.sp: TooLong\n"),
+    Row("a missing file under check", [b"check", b"missing.sp"], 4, err=b"spd: missing.sp: read failed\n"),
+    Row("check without an operand", [b"check"], 2, err=REFUSED),
+    Row("check with a word too many", [b"check", b"a.sp", b"a.sp"], 2, err=REFUSED),
+    Row("check with an operand that is an option", [b"check", b"-a.sp"], 2, err=REFUSED),
     # Arguments.
     Row("no words", [], 2, err=REFUSED),
     Row("a word that isn't UTF-8", [b"elide", b"a.sp\xff"], 2, err=REFUSED),
@@ -92,7 +124,7 @@ ROWS = [
     Row("a name with a blank at its end", [b"elide", b"blank.sp "], 0, b"4\n"),
     Row("that name without its blank", [b"elide", b"blank.sp"], 4, err=b"spd: blank.sp: read failed\n"),
     Row("a blank before a name", [b"elide", b" a.sp"], 4, err=b"spd:  a.sp: read failed\n"),
-    Row("an empty file", [b"elide", b"empty.sp"], 1, err=b"spd: empty.sp: NotBuilt\n"),
+    Row("an empty file", [b"elide", b"empty.sp"], 1, err=b"spd: empty.sp:1: NoMain\n"),
     Row("a file that isn't ASCII", [b"elide", b"bytes.sp"], 1, err=b"spd: bytes.sp:2: BadByte\n"),
     Row("a fault in a folder's file", [b"elide", b"folder.sp/a:b.sp"], 1, err=b"spd: folder.sp/a:b.sp:2: Expected\n"),
     Row("a file of the greatest size", [b"elide", b"most.sp"], 0, b"8\n"),
@@ -109,12 +141,22 @@ ROWS = [
     Row("an output that is taken in parts", [b"elide", b"long.sp"], 0, LONG + b"\n1\n", out_is=SLOW),
     Row("a long string into a file", [b"elide", b"long.sp"], 0, LONG + b"\n1\n", out_is=FILE),
     Row("an output behind a file's bytes", [b"elide", b"a.sp"], 0, BEFORE + b"n=3\n", out_is=APPENDED),
+    Row("a full output before a fault of a run", [b"elide", b"late.sp"], 5, err=NOT_WRITTEN, out_is=FULL),
+    Row("a full output that a fault of a run gives nothing", [b"elide", b"early.sp"], 3, err=b"spd: early.sp:3: division by zero\n", out_is=FULL),
+    Row("a full output under check", [b"check", b"a.sp"], 5, err=NOT_WRITTEN, out_is=FULL),
+    Row("a closed output under check", [b"check", b"a.sp"], 5, err=NOT_WRITTEN, out_is=CLOSED),
+    Row("an output that nobody reads under check", [b"check", b"wide.sp"], 5, err=NOT_WRITTEN, out_is=GONE),
+    Row("a full output at a refused program under check", [b"check", b"stray.sp"], 1, err=b"spd: stray.sp:2: Unknown\n", out_is=FULL),
+    Row("a canonical text that is taken in parts", [b"check", b"wide.sp"], 0, WIDE, out_is=SLOW),
+    Row("a canonical text into a file", [b"check", b"wide.sp"], 0, WIDE, out_is=FILE),
     # A limit on the sizes of files.
     Row("a file that ends at its limit", [b"elide", b"three.sp"], 0, THREE, out_is=FILE, most_bytes=len(THREE)),
     Row("a file a byte too small", [b"elide", b"three.sp"], 5, THREE[:-1], NOT_WRITTEN, out_is=FILE, most_bytes=len(THREE) - 1),
     Row("a file that ends in a piece", [b"elide", b"three.sp"], 5, THREE[:10], NOT_WRITTEN, out_is=FILE, most_bytes=10),
     Row("a file that ends behind a piece", [b"elide", b"three.sp"], 5, THREE[:6], NOT_WRITTEN, out_is=FILE, most_bytes=6),
     Row("a file that may get nothing", [b"elide", b"three.sp"], 5, b"", NOT_WRITTEN, out_is=FILE, most_bytes=0),
+    Row("a file a byte too small for a canonical text", [b"check", b"wide.sp"], 5, WIDE[:-1], NOT_WRITTEN, out_is=FILE, most_bytes=len(WIDE) - 1),
+    Row("a file that ends in a canonical text", [b"check", b"wide.sp"], 5, WIDE[:20], NOT_WRITTEN, out_is=FILE, most_bytes=20),
     Row("a limit behind a file's bytes", [b"elide", b"three.sp"], 5, BEFORE + THREE[:2], NOT_WRITTEN, out_is=APPENDED, most_bytes=len(BEFORE) + 2),
     Row("a limit within a file's bytes", [b"elide", b"three.sp"], 5, BEFORE, NOT_WRITTEN, out_is=APPENDED, most_bytes=3),
     Row("a limit where no file is written", [b"elide", b"three.sp"], 0, THREE, most_bytes=0),
@@ -127,12 +169,38 @@ ROWS = [
     Row("a full error stream at a refused program", [b"elide", b"empty.sp"], 5, err_is=FULL),
     Row("a full error stream at a fault's line", [b"elide", b"bytes.sp"], 5, err_is=FULL),
     Row("a limit in a fault's line", [b"elide", b"bytes.sp"], 5, err=b"spd: bytes.sp:2", err_is=FILE, most_bytes=15),
+    Row("a full error stream at a fault of a run", [b"elide", b"late.sp"], 5, b"7\n", err_is=FULL),
+    Row("a closed error stream at a fault of a run", [b"elide", b"late.sp"], 5, b"7\n", err_is=CLOSED),
+    Row("a limit in the line of a fault of a run", [b"elide", b"early.sp"], 5, err=b"spd: early.sp:3", err_is=FILE, most_bytes=15),
+    Row("a full error stream at a refused program under check", [b"check", b"stray.sp"], 5, err_is=FULL),
+    Row("a full error stream that check gives nothing", [b"check", b"a.sp"], 0, PLAIN, err_is=FULL),
+    Row("two full streams under check", [b"check", b"a.sp"], 5, out_is=FULL, err_is=FULL),
     Row("a full error stream at a missing file", [b"elide", b"missing.sp"], 4, err_is=FULL),
     Row("a full error stream that gets nothing", [b"elide", b"a.sp"], 0, b"n=3\n", err_is=FULL),
     Row("two full streams", [b"elide", b"a.sp"], 5, out_is=FULL, err_is=FULL),
     Row("two closed streams", [b"elide", b"a.sp"], 5, out_is=CLOSED, err_is=CLOSED),
 ]
-ROWS += [Row(str(it), [b"elide", os.fsencode(it.name)], 1, err=it.with_name(f"{it.name}.stderr").read_bytes()) for it in FAULTS]
+
+
+def row_of(example):
+    """The row of an example of a fault under `elide`: what it writes is beside it where it faults only as it runs."""
+    words, err = [b"elide", os.fsencode(example.name)], example.with_name(f"{example.name}.stderr").read_bytes()
+    written = example.with_name(f"{example.name}.stdout")
+    if written.exists():
+        return Row(str(example), words, 3, written.read_bytes(), err)
+    return Row(str(example), words, 1, err=err)
+
+
+def under_check(row):
+    """The row of a refused program under `check`."""
+    return dataclasses.replace(row, what=f"{row.what} under check", words=[b"check", row.words[1]])
+
+
+OF_FAULTS = [row_of(it) for it in FAULTS]
+ROWS += OF_FAULTS
+# What isn't built is told under `elide` alone.
+ROWS += [under_check(it) for it in OF_FAULTS if it.status == 1 and not it.err.endswith(b": NotBuilt\n")]
+
 
 
 def opened(is_what, at):
@@ -248,8 +316,8 @@ def main():
         faults.append(f"{PROGRAMS[0]}: not built: run `rt ci`, or `rt run` in crates/spd")
     if not FAULTS:
         faults.append("examples/faults: no program was found")
-    if {row.status for row in ROWS} != {0, 1, 2, 4, 5, 7}:
-        faults.append("the rows don't have each of the statuses 0, 1, 2, 4, 5 and 7")
+    if {row.status for row in ROWS} != {0, 1, 2, 3, 4, 5, 7}:
+        faults.append("the rows don't have each of the statuses 0, 1, 2, 3, 4, 5 and 7")
     if not faults:
         with tempfile.TemporaryDirectory(prefix="spd-streams-") as folder:
             folder = pathlib.Path(folder)

@@ -1,4 +1,4 @@
+column price: int from "p.csv" field "price";
 main {
-  let n = 3;
-  if n { print "some"; }
+  print len(price);
 }

@@ -1,0 +1,3 @@
+main {
+  async { let tea = 3; }
+}

@@ -1,0 +1,3 @@
+fn half(n) {
+  return n / 2;
+}

@@ -1,0 +1,5 @@
+fn sign(n) {
+  if n < 0 { return -1; }
+  if n > 0 { return 1; }
+}
+main { }

@@ -1,0 +1,5 @@
+main {
+  finish {
+    print "tea";
+  }
+}

@@ -1,0 +1,7 @@
+fn first(n) {
+  finish {
+    return n;
+  }
+  return 0;
+}
+main { }

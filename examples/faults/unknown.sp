@@ -1,0 +1,4 @@
+main {
+  let tea = 3;
+  print tea + coffee;
+}
