@@ -1,10 +1,10 @@
 #!/usr/bin/env python3
 """Measures async and finish of `spd elide` in one run on this machine, and prints ratios.
 
-Usage: bench/finishes.py [PROGRAM [ELIDED]], from the top of the repository. PROGRAM is the built
-program (crates/spd/out/spd if left out), which runs each finish of main as vertices. ELIDED is one
-that runs it by the elision: built from a copy in which crates/spd_top/src/serving.rt names
-`ElideRegions` of `spd_elide` in place of `PlainRegions` of `spd_task`.
+Usage: bench/finishes.py [PROGRAM [OTHER]], from the top of the repository. PROGRAM is the built
+program (crates/spd/out/spd if left out), which runs each finish of main by its serial elision. OTHER
+is one to compare it with: built from a copy in which crates/spd_top/src/programs.rt names
+`PlainRegions` of `spd_task` in place of `ElideRegions`, so that each finish runs as vertices.
 
 What it prints is a measurement of one run, and no promise.
 """
