@@ -1,0 +1,27 @@
+//! Tests that cross crates: commands, programs, and all ways to run a finish.
+#![tactic(auto)]
+
+#[cfg(test)]
+mod arguments;
+#[cfg(test)]
+mod checks;
+#[cfg(test)]
+mod commands;
+#[cfg(test)]
+mod events;
+#[cfg(test)]
+mod families;
+#[cfg(test)]
+mod finish_rows;
+#[cfg(test)]
+mod jobs;
+#[cfg(test)]
+mod limits;
+#[cfg(test)]
+mod programs;
+#[cfg(test)]
+mod refused;
+#[cfg(test)]
+mod serving;
+#[cfg(test)]
+mod ways;
