@@ -10,6 +10,3 @@ pub use elide::elide_body;
 pub use job::{Job, JobBody, level_of_job};
 pub use machine::{Inside, Machine, Met, with_end};
 pub use regions::{ElideRegions, Regions};
-
-#[cfg(test)]
-mod tests;
