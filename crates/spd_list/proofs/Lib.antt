@@ -1,0 +1,3 @@
+-- `Seq`: each call's clause is that of the list that it holds, and is found by the check, so that no lemma stands here.
+-- One that several calls came to share would have a file of its own, named for what it says.
+-- The law that a `Seq` may lie inside a type that it leads back to is in specs/formers.
