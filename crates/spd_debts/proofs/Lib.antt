@@ -31,3 +31,4 @@ pub mod Keeping
 pub mod Marking
 pub mod Halves
 pub mod Over
+pub mod Standing
