@@ -56,9 +56,9 @@ module _ {B : Type 0} (view : B → Meaning) (p : PlanView) (a : Dag) (homes : L
   -- a step after which the words are those of b: it writes no gift, and expects nothing new of finish 0
   pub standing : (b : Dag) (homes' : List (maybe.Option (Option B))) (w : View) → b.tame ≡ a.tame → b.region ≡ a.region → b.expects 0 ≡ a.expects 0
       → (b.drawn ≡ 0 → a.drawn ≡ 0) → HandsOn b.drawn v w → Each (Shows b.gifts) (set vs id w)
-      → (Books view p a homes vs → Books view p b homes' (set vs id w)) → BookRule view p b homes' (set vs id w)
+      → (a.tame ≡ 1 → Books view p a homes vs → Books view p b homes' (set vs id w)) → BookRule view p b homes' (set vs id w)
   standing b homes' w tame region first drawn on shows books = record {
-    kept = λ t. books (stands.kept (sym tame ∙ t));
+    kept = λ t. books (sym tame ∙ t) (stands.kept (sym tame ∙ t));
     lawful = λ t. subst (λ (x : Awaited). IsLawfulTotal x.kind x.gift x.fault) (sym first) (stands.lawful (sym tame ∙ t));
     shows = shows;
     carries = each_kept (Carries b.tame b.region) vs id w
@@ -72,6 +72,6 @@ module _ {B : Type 0} (view : B → Meaning) (p : PlanView) (a : Dag) (homes : L
   pub standing_on : (b : Dag) (homes' : List (maybe.Option (Option B))) (w : View) → b.tame ≡ a.tame → b.region ≡ a.region → b.expects 0 ≡ a.expects 0
       → b.gifts ≡ a.gifts → (b.drawn ≡ 0 → a.drawn ≡ 0) → HandsOn b.drawn v w
       → ((r : Running) → w.running ≡ Some r → (q : Running) × (v.running ≡ Some q) × (q.vertex ≡ r.vertex)) → w.seen ≡ v.seen
-      → (Books view p a homes vs → Books view p b homes' (set vs id w)) → BookRule view p b homes' (set vs id w)
+      → (a.tame ≡ 1 → Books view p a homes vs → Books view p b homes' (set vs id w)) → BookRule view p b homes' (set vs id w)
   standing_on b homes' w tame region first gifts drawn on runs seen books = standing b homes' w tame region first drawn on
       (subst (λ (g : ℕ → ℕ). Each (Shows g) (set vs id w)) (sym gifts) (shows_kept a.gifts vs stands.shows id v at w runs seen)) books
