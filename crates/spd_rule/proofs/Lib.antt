@@ -6,6 +6,7 @@
 pub mod Conserved
 pub mod Follows
 pub mod Glue
+pub mod Likeness
 pub mod Claims
 pub mod Blanks
 pub mod Found

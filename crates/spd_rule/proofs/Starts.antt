@@ -1,5 +1,5 @@
 -- The table allows a vertex to be started.
-use Rattle.std.proofs.Common.{◌≡◌, ◌≢◌, ℕ, ◌+◌, ◌*◌, ◌<◌, List, set, refl, sym, ap, ◌∙◌, subst, arith, ◌∷◌, Option, Some, None, inl, inr, eqb, eq-eqb, ne_eqb}
+use Rattle.std.proofs.Common.{◌≡◌, ◌≢◌, ℕ, ◌+◌, ◌*◌, ◌<◌, List, length, set, refl, sym, ap, ◌∙◌, subst, arith, ◌∷◌, Option, Some, None, inl, inr, eqb, eq-eqb, ne_eqb}
 use mathlib.Core.Option.{some}
 use mathlib.Core.Option as maybe
 use mathlib.Core.Logic.{dite}
@@ -11,6 +11,7 @@ use Rattle.spd_words.specs.Plan.{PlanView, vertex_place}
 use Rattle.spd_words.specs.Meaning.{Meaning}
 use Rattle.spd_words.specs.Words.{Vertex, VertexFits, vertex_of, pack_vertex}
 use Rattle.spd_words.proofs.Reading.{vertex_read}
+use Rattle.spd_state.specs.Sums.{put}
 use Rattle.spd_state.specs.Dag.{Dag}
 use Rattle.spd_state.specs.Parts.{Rule, IsInside}
 use Rattle.spd_state.specs.Steps.{stepped, start_word, start_run, start_view}
@@ -18,14 +19,18 @@ use Rattle.spd_state.specs.Shown.{ShownOk}
 use Rattle.spd_state.specs.declared.view.View.{View}
 use Rattle.spd_state.proofs.Loads.{load_keeps}
 use Rattle.spd_state.proofs.Start.{start_keeps}
-use Rattle.spd_rule.specs.Held.{Held}
+use mathlib.Core.Option.{none}
+use Rattle.spd_debts.specs.BookRule.{BookRule}
+use Rattle.spd_debts.proofs.Bookkeeping.{load_stands}
+use Rattle.spd_debts.proofs.Storing.{start_body_stands, start_end_stands}
+use Rattle.spd_rule.specs.Kept.{Kept}
 use Rattle.spd_rule.specs.Steps.{MayStart, StartsVertex, HasSeen, LateStart, meaning_in}
 use Rattle.spd_state.proofs.Showing.{shown_starts, shown_taken}
 use Rattle.spd_rule.proofs.Glue.{From, allow_vertex, unseen, unseen_by}
 
-module _ {B : Type 0} (p : PlanView) (slots id : ℕ) (me : Me (Option B) View) where
+module _ {B : Type 0} (means : B → Meaning) (p : PlanView) (slots id : ℕ) (me : Me (Option B) View) where
   -- a step that changes the number of steps alone
-  pub idles : (a : Dag) (homes : List (maybe.Option (Option B))) (vs : List View) → From {B = B} p slots id me a homes vs
+  pub idles : (a : Dag) (homes : List (maybe.Option (Option B))) (vs : List View) → From means p slots id me a homes vs
       → Rule p a homes (set vs id (stepped me.0))
   idles a homes vs from = load_keeps p a homes vs from.rule id me.0 from.at
       (stepped me.0) record {
@@ -54,7 +59,7 @@ module _ {B : Type 0} (p : PlanView) (slots id : ℕ) (me : Me (Option B) View) 
 
 module _ {B : Type 0} (means : B → Meaning) (p : PlanView) (slots id : ℕ) (me : Me (Option B) View) where
   -- what lies at home in the slot of a ready vertex
-  body_there : (a : Dag) (homes : List (maybe.Option (Option B))) (vs : List View) (from : From {B = B} p slots id me a homes vs) (i : ℕ) → i < 2 * p.moves
+  body_there : (a : Dag) (homes : List (maybe.Option (Option B))) (vs : List View) (from : From means p slots id me a homes vs) (i : ℕ) → i < 2 * p.moves
       → (a.vertices i).state ≡ 2
       → (y : Option B) × (get_elem? homes i ≡ some (some y)) × (i ≡ 1 → y ≡ None) × (i ≢ 1 → (b : B) × (y ≡ Some b))
   body_there a homes vs from i low two = let h = from.rule.slots in dite (ℕ_discrete i 1)
@@ -63,17 +68,28 @@ module _ {B : Type 0} (means : B → Meaning) (p : PlanView) (slots id : ℕ) (m
       (λ n. let b = h.body i low (omega arith) (omega arith) n in (Some b.0, b.1, (λ e. absurd (n e)), λ _. (b.0, refl)))
 
   -- what the share has seen ready was started by another since
-  late : (a : Dag) (homes : List (maybe.Option (Option B))) (vs : List View) → From {B = B} p slots id me a homes vs → (i seen : ℕ)
+  late : (a : Dag) (homes : List (maybe.Option (Option B))) (vs : List View) → From means p slots id me a homes vs → (i seen : ℕ)
       → VertexFits (a.vertices i) → pack_vertex (a.vertices i) ≢ seen → HasSeen i seen me.0 → (vertex_of (pack_vertex (a.vertices i))).state ≡ 3
   late a homes vs from i seen fit miss has = let x : Vertex = a.vertices i in
       let stands : ShownOk p.moves a.vertices has.noted = from.shown id me.0 from.at has.at has.noted has.there in
       ap (λ (y : Vertex). y.state) (vertex_read x fit)
       ∙ shown_taken p.moves a.vertices i has.noted stands has.vertex fit.state (λ e. miss (ap pack_vertex e ∙ has.word))
 
+  start_stands : (a : Dag) (homes : List (maybe.Option (Option B))) (vs : List View) (from : From means p slots id me a homes vs) (i : ℕ) → i < 2 * p.moves
+      → length homes ≡ 2 * p.moves → me.0.running ≡ None → (a.vertices i).state ≡ 2 → (y : Option B) → get_elem? homes i ≡ some (some y) → (i ≡ 1 → y ≡ None)
+      → (i ≢ 1 → (b : B) × (y ≡ Some b))
+      → BookRule means p (record a { vertices = put a.vertices i (start_word (a.vertices i)) }) (set homes i none)
+      (set vs id (start_view i (a.vertices i) (meaning_in means y) me.0))
+  start_stands a homes vs from i low deep idle two None there end other = dite (ℕ_discrete i 1)
+      (λ e. start_end_stands means p a homes vs from.rule from.books id me.0 from.at deep idle i low two e)
+      (λ n. let t = other n in let z = t.1 in absurd (cc))
+  start_stands a homes vs from i low deep idle two (Some b) there end other = dite (ℕ_discrete i 1) (λ e. let z = end e in absurd (cc))
+      (λ n. start_body_stands means p a homes vs from.rule from.books id me.0 from.at deep idle i low two n b there)
+
   pub starts : (i seen : ℕ) → slots ≡ 2 * p.moves → i < 2 * p.moves → MayStart seen me.0 → 0 < me.0.seats
-      → Allows (Held p) slots id me (vertex_place p i) (λ n. either (eqb n seen) (seen + 1) n)
+      → Allows (Kept means p) slots id me (vertex_place p i) (λ n. either (eqb n seen) (seen + 1) n)
       (λ n m'. (n ≡ seen → StartsVertex means p i seen me m') × (n ≢ seen → LateStart i seen n me m'))
-  starts i seen size low may seated = allow_vertex p slots id me i low (λ n. either (eqb n seen) (seen + 1) n)
+  starts i seen size low may seated = allow_vertex means p slots id me i low (λ n. either (eqb n seen) (seen + 1) n)
       (λ n m'. (n ≡ seen → StartsVertex means p i seen me m') × (n ≢ seen → LateStart i seen n me m'))
       (λ a homes vs from fit fits. let x : Vertex = a.vertices i in dite (ℕ_discrete (pack_vertex x) seen)
       (λ hit. let read : x ≡ vertex_of seen = sym (vertex_read x fit) ∙ ap vertex_of hit in let two : x.state ≡ 2 = ap (λ (y : Vertex). y.state) read
@@ -85,6 +101,9 @@ module _ {B : Type 0} (means : B → Meaning) (p : PlanView) (slots id : ℕ) (m
       let here : IsInside p (start_run i x) = (low, pair, finish, inc) in inl record {
         new = start_word x;
         fits = record { state = omega arith; side = fit.side; pair = fit.pair; finish = fit.finish; inc = fit.inc };
+        expects = a.expects;
+        region = a.region;
+        tame = a.tame;
         packs = (let e : pack_vertex (start_word x) ≡ seen + 1 = omega arith in e)
             ∙ sym (ap (λ b. either b (seen + 1) (pack_vertex x)) (eq-eqb (pack_vertex x) seen hit));
         move = record {
@@ -92,7 +111,8 @@ module _ {B : Type 0} (means : B → Meaning) (p : PlanView) (slots id : ℕ) (m
           act = takes i slot.0;
           valid = slot.1;
           kept = kept;
-          shown = unseen_by p slots id me a homes vs from i (start_word x) (shown_starts p.moves a.vertices i two) (start_view i x m me.0) refl;
+          shown = unseen_by means p slots id me a homes vs from i (start_word x) (shown_starts p.moves a.vertices i two) (start_view i x m me.0) refl;
+          books = start_stands a homes vs from i low (from.deep ∙ size) may.running two slot.0 slot.1 slot.2 slot.3;
           tells = (
             (λ _. record {
               body = slot.0;
@@ -112,8 +132,9 @@ module _ {B : Type 0} (means : B → Meaning) (p : PlanView) (slots id : ℕ) (m
           view = stepped me.0;
           act = keeps;
           valid = tt;
-          kept = idles p slots id me a homes vs from;
-          shown = unseen p slots id me a homes vs from (stepped me.0) refl;
+          kept = idles means p slots id me a homes vs from;
+          shown = unseen means p slots id me a homes vs from (stepped me.0) refl;
+          books = load_stands means p a homes vs from.rule from.books id me.0 from.at;
           tells = ((λ hit. absurd (miss hit)), λ _. record { known = refl; taken = late a homes vs from i seen fit miss });
         };
       }))

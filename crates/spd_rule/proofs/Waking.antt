@@ -16,7 +16,9 @@ use Rattle.spd_state.proofs.Settle.{length_without, there_set}
 use Rattle.spd_state.proofs.Showing.{shown_beside}
 use Rattle.spd_state.proofs.Bounds.{ready_few}
 use Rattle.spd_state.proofs.Wake.{waiting, wake_all}
-use Rattle.spd_rule.specs.Held.{Held}
+use Rattle.spd_words.specs.Meaning.{Meaning}
+use Rattle.spd_debts.proofs.Storing.{wake_stands}
+use Rattle.spd_rule.specs.Kept.{Kept}
 use Rattle.spd_rule.specs.Rest.{due, at_rest}
 use Rattle.spd_rule.specs.Beside.{Mirrors}
 use Rattle.spd_rule.specs.Idle.{WakesBeside}
@@ -27,7 +29,7 @@ use Rattle.spd_rule.proofs.Mirrors.{kept_inside}
 use Rattle.spd_rule.proofs.Resting.{HomeBound, bound_by, running_started, rests}
 use Rattle.spd_rule.proofs.Settled.{settles, rest_due, shown_rest}
 
-module _ {B : Type 0} (p : PlanView) (slots id : ℕ) (me : Me (Option B) View) (f : ℕ) (low : f < p.moves) (told : IsTold f me.0)
+module _ {B : Type 0} (means : B → Meaning) (p : PlanView) (slots id : ℕ) (me : Me (Option B) View) (f : ℕ) (low : f < p.moves) (told : IsTold f me.0)
     (size : slots ≡ 2 * p.moves) (holds : me.0.slots ≡ map (λ x. x.0) me.1) (is_due : me.0.slots ≡ due me.0.flight me.0.running) where
   abbrev i : ℕ
   i = 2 * f + 1
@@ -36,7 +38,7 @@ module _ {B : Type 0} (p : PlanView) (slots id : ℕ) (me : Me (Option B) View) 
   abbrev Wakes : ℕ → Me (Option B) View → Type 0
   Wakes n m' = (m' ≡ wake_known f me) × ((vertex_of n).state ≡ 1) × (m'.0.ready ≤ 2 * p.moves)
 
-  module _ (a : Dag) (homes : List (maybe.Option (Option B))) (vs : List View) (from : From {B = B} p slots id me a homes vs) where
+  module _ (a : Dag) (homes : List (maybe.Option (Option B))) (vs : List View) (from : From means p slots id me a homes vs) where
     abbrev x : Vertex
     x = a.vertices i
 
@@ -50,24 +52,29 @@ module _ {B : Type 0} (p : PlanView) (slots id : ℕ) (me : Me (Option B) View) 
         let apart : r.vertex ≢ i = λ k. let z : (a.vertices r.vertex).state ≡ x.state = ap (λ n. (a.vertices n).state) k in omega arith in
         record { low = s.low; started = subst (λ (v : Vertex). 3 ≤ v.state) (sym (put_else a.vertices i (wake_word x) r.vertex apart)) s.started })
 
-  pub wakes : Allows (Held p) slots id me (vertex_place p i) (λ n. (n + 1) % 2 ^ 64) Wakes
-  wakes = allow_vertex p slots id me i (omega arith) (λ n. (n + 1) % 2 ^ 64) Wakes
+  pub wakes : Allows (Kept means p) slots id me (vertex_place p i) (λ n. (n + 1) % 2 ^ 64) Wakes
+  wakes = allow_vertex means p slots id me i (omega arith) (λ n. (n + 1) % 2 ^ 64) Wakes
       (λ a homes vs from fit fits. let y : Vertex = a.vertices i in let one = is_waiting a homes vs from in
       let d = fit.side in let q = fit.pair in let u = fit.finish in let n = fit.inc in
       let w : View = wake_after f me.0 in let b : Dag = record a { vertices = put a.vertices i (wake_word y) } in
       let kept = wake_all p a homes vs from.rule id me.0 from.at f low told in
-      let r = rests p b homes vs id me.0 from.at w me.1 kept (from.deep ∙ size) holds (λ none free. wake_bound a homes vs from free) in
+      let r = rests means p b homes vs id me.0 from.at w me.1 kept
+      (wake_stands means p a homes vs from.rule from.books id me.0 from.at f i (omega arith) one) (from.deep ∙ size) holds (λ none free. wake_bound a homes vs from free) in
       let v : View = (at_rest (w, me.1)).0 in inl record {
         new = wake_word y;
         fits = record { state = omega arith; side = fit.side; pair = fit.pair; finish = fit.finish; inc = fit.inc };
         packs = omega arith;
+        expects = a.expects;
+        region = a.region;
+        tame = a.tame;
         move = record {
           view = v;
           act = r.act;
           valid = r.valid;
           kept = r.kept;
-          shown = unseen_by p slots id me a homes vs from i (wake_word y) (shown_beside p.moves a.vertices i (wake_word y) (omega arith)) v
+          shown = unseen_by means p slots id me a homes vs from i (wake_word y) (shown_beside p.moves a.vertices i (wake_word y) (omega arith)) v
               (shown_rest (w, me.1));
+          books = r.books;
           tells = (
             (λ j. (v, sym r.carried j)),
             ap (λ (z : Vertex). z.state) (vertex_read y fit) ∙ one,

@@ -2,7 +2,7 @@
 use Rattle.std.specs.Prelude.{◌≡◌, ◌≢◌, ◌∷◌, ◌+◌, ◌-◌, ◌%◌, ◌^◌, ◌<◌, ◌≤◌, ℕ, List, Option, Result, Ok, Err}
 use Rattle.atomic_table.specs.Table.{Me, rest}
 use Rattle.spd_words.specs.Plan.{PlanView, node_place, pair_place, vertex_place}
-use Rattle.spd_words.specs.Meaning.{Meaning}
+use Rattle.spd_words.specs.Meaning.{Meaning, BodyView}
 use Rattle.spd_state.specs.declared.view.Draw.{Draw}
 use Rattle.spd_state.specs.declared.view.View.{View}
 use Rattle.spd_rule.specs.Steps.{pair_in, StartsVertex, LateStart, DrawsMove}
@@ -10,6 +10,7 @@ use Rattle.spd_words.specs.Words.{Pair, Vertex, node_of, pack_pair, pack_vertex}
 use Rattle.spd_rule.specs.Moves.{MaySetVertex, pair_set}
 use Rattle.spd_rule.specs.Consequences.{IsFinished}
 use Rattle.spd_rule.specs.Held.{StepUnderRule}
+use Rattle.spd_rule.specs.Kept.{StepUnderBooks, means_of}
 use Rattle.spd_rule.specs.declared.field.Field.{Field}
 use Rattle.spd_rule.specs.declared.field.Share.{Share}
 
@@ -47,6 +48,10 @@ AddsUnderRule f place k found s t = StepUnderRule f.plan place found ((found + k
 abbrev pub SubsUnderRule : {B : Type 0} → Field B → ℕ → ℕ → ℕ → Share B → Share B → Type 0
 SubsUnderRule f place k found s t = StepUnderRule f.plan place found
     ((found + (2 ^ 64 - k)) % 2 ^ 64) s.seat.me t.seat.me
+
+-- A fetch of this share found a word at this place and left that one, under the rule.
+abbrev pub LeavesUnderRule : {B : Type 0} → Field B → ℕ → ℕ → ℕ → Share B → Share B → Type 0
+LeavesUnderRule f place found left s t = StepUnderRule f.plan place found left s.seat.me t.seat.me
 
 -- the same of a store onto a word that was 0 until then
 abbrev pub StoresUnderRule : {B : Type 0} → Field B → ℕ → ℕ → Share B → Share B → Type 0
@@ -107,3 +112,7 @@ pub record IsTraded {B : Type 0} (put got : Option B) (s t : Share B) : Type 0 w
 -- The share may store x in the word of the vertex i, with the body that lies in the slot.
 abbrev pub MayStore : {B : Type 0} → (B → Meaning) → ℕ → Vertex → Share B → Type 0
 MayStore means i x s = MaySetVertex means i x s.seat.me
+
+-- The share took one step under the rule, just before which and just after which the books stood.
+abbrev pub BooksStand : {B : Type 0} → (B → BodyView) → Field B → Share B → Share B → Type 0
+BooksStand view f s t = (place found left : ℕ) × StepUnderBooks (means_of view) f.plan place found left s.seat.me t.seat.me
