@@ -71,6 +71,15 @@ module _ {B : Type 0} (view : B → Meaning) (p : PlanView) (a : Dag) (homes : L
       let right = no_right p a homes vs rule 0 (omega arith) gone id v r at is f in
       let claim : length v.claimed ≡ 0 = ap length (no_claim p a homes vs rule 0 (omega arith) gone id v r at is f) in absurd (omega arith)
 
+  -- so one that runs vertex 1 has claimed none
+  pub end_claims_none : (r : Running) → v.running ≡ Some r → r.vertex ≡ 1 → v.claimed ≡ []
+  end_claims_none r is one = by v.claimed refl
+    where
+      by : (l : List ℕ) → v.claimed ≡ l → v.claimed ≡ []
+      by [] e = e
+      by (x ∷ xs) e = let n : length v.claimed ≡ length (x ∷ xs) = ap length e in absurd (unfinished_other r is (let m : 0 < length (x ∷ xs) = omega arith in
+          omega arith) one)
+
   -- ---- the make is drawn, and with it the books begin, unless its body is wild
 
   module _ (homes' : List (maybe.Option (Option B))) (told : Meaning) (fresh : 0 < v.fresh)

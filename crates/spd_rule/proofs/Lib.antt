@@ -25,3 +25,6 @@ pub mod Stores
 pub mod Stored
 pub mod Looking
 pub mod Waking
+pub mod Offering
+pub mod Collecting
+pub mod Ending
