@@ -28,3 +28,4 @@ pub mod Waking
 pub mod Offering
 pub mod Collecting
 pub mod Ending
+pub mod Final

@@ -1,7 +1,7 @@
 -- What a clause says of a field and its shares.
 use Rattle.std.specs.Prelude.{◌≡◌, ◌≢◌, ◌∷◌, ◌+◌, ◌-◌, ◌%◌, ◌^◌, ◌<◌, ◌≤◌, ℕ, List, Option, Result, Ok, Err}
 use Rattle.atomic_table.specs.Table.{Me, rest}
-use Rattle.spd_words.specs.Plan.{PlanView, node_place, pair_place, vertex_place}
+use Rattle.spd_words.specs.Plan.{PlanView, node_place, pair_place, vertex_place, gift_place, fault_place}
 use Rattle.spd_words.specs.Meaning.{Meaning, BodyView}
 use Rattle.spd_state.specs.declared.view.Draw.{Draw}
 use Rattle.spd_state.specs.declared.view.View.{View}
@@ -86,6 +86,13 @@ root_place f d = node_place f.plan d
 
 abbrev pub start_place : {B : Type 0} → Field B → ℕ → ℕ
 start_place f v = vertex_place f.plan v
+
+-- and those of what a finish has been offered, and of its least code
+abbrev pub offer_place : {B : Type 0} → Field B → ℕ → ℕ
+offer_place f d = gift_place f.plan d
+
+abbrev pub code_place : {B : Type 0} → Field B → ℕ → ℕ
+code_place f d = fault_place f.plan d
 
 -- The share's draw found n moves drawn.
 abbrev pub MoveDrawn : {B : Type 0} → Field B → Draw → Meaning → ℕ → Share B → Share B → Type 0

@@ -1,10 +1,10 @@
 // The steps of a share whose vertex waited: it looks at what its finish has got, and vertex 1 ends the region.
 
 ghost use Rattle.std.specs.Prelude.{◌≡◌, ◌<◌, ℕ};
-ghost use Rattle.spd_words.specs.Plan.{gift_place, fault_place, done_place};
+ghost use Rattle.spd_words.specs.Plan.{done_place};
 ghost use Rattle.spd_state.specs.Steps.{stepped};
 ghost use Rattle.spd_rule.specs.Payments.{FindsAwaited, MayMarkEnd, shown_known, collected_known, done_known};
-ghost use Rattle.spd_rule.specs.Shares.{IsOf, IsSame, BooksStand, LoadsUnderRule, StoresUnderRule, share_view, share_bodies, share_known, field_plan};
+ghost use Rattle.spd_rule.specs.Shares.{IsOf, IsSame, BooksStand, LoadsUnderRule, StoresUnderRule, offer_place, code_place, share_view, share_bodies, share_known, field_plan};
 
 use crate::field::{Field, Share};
 use crate::table::{load, store};
@@ -17,7 +17,7 @@ pub fn see_sum<B: Body>(field: &Field<B>, share: &mut Share<B>, d: u32) -> u64
     requires finish { d < (field_plan field.now).moves }
     ensures same { IsSame share.old share.new }
     ensures view { share_known share.new ≡ shown_known d result (share_known share.old) }
-    ensures rule { LoadsUnderRule field.now (gift_place (field_plan field.now) d) result share.old share.new }
+    ensures rule { LoadsUnderRule field.now (offer_place field.now d) result share.old share.new }
     ensures books { BooksStand B.view field.now share.old share.new }
 {
     let word = field.plan.gift_place(d) as usize;
@@ -33,7 +33,7 @@ pub fn see_fault<B: Body>(field: &Field<B>, share: &mut Share<B>, d: u32) -> u64
     ensures same { IsSame share.old share.new }
     ensures view { share_known share.new ≡ collected_known d result (share_known share.old) }
     ensures finds { FindsAwaited d result (share_view share.old) }
-    ensures rule { LoadsUnderRule field.now (fault_place (field_plan field.now) d) result share.old share.new }
+    ensures rule { LoadsUnderRule field.now (code_place field.now d) result share.old share.new }
     ensures books { BooksStand B.view field.now share.old share.new }
 {
     let word = field.plan.fault_place(d) as usize;

@@ -2,9 +2,8 @@
 
 ghost use Rattle.std.specs.Prelude.{◌≡◌, ◌<◌, max, min};
 ghost use Rattle.std.specs.Int.{w64, cast_unsigned};
-ghost use Rattle.spd_words.specs.Plan.{gift_place, fault_place};
 ghost use Rattle.spd_rule.specs.Payments.{MayPayTo, TakesSum, TakesBest, TakesFault, offered_known, lowered_known};
-ghost use Rattle.spd_rule.specs.Shares.{IsOf, IsSame, BooksStand, AddsUnderRule, LeavesUnderRule, share_view, share_known, field_plan};
+ghost use Rattle.spd_rule.specs.Shares.{IsOf, IsSame, BooksStand, AddsUnderRule, LeavesUnderRule, offer_place, code_place, share_view, share_known, field_plan};
 
 use crate::field::{Field, Share};
 use crate::table::{add, lower, raise};
@@ -21,7 +20,7 @@ pub fn add_sum<B: Body, P: Told>(field: &Field<B>, share: &mut Share<B>, d: u32,
     requires pays { TakesSum x P.told.promise.gift (share_view share.old) }
     ensures same { IsSame share.old share.new }
     ensures view { share_known share.new ≡ offered_known P.told.promise.gift (share_known share.old) }
-    ensures rule { AddsUnderRule field.now (gift_place (field_plan field.now) d) (cast_unsigned w64 x) result share.old share.new }
+    ensures rule { AddsUnderRule field.now (offer_place field.now d) (cast_unsigned w64 x) result share.old share.new }
     ensures books { BooksStand B.view field.now share.old share.new }
 {
     let word = field.plan.gift_place(d) as usize;
@@ -38,7 +37,7 @@ pub fn raise_best<B: Body, P: Told>(field: &Field<B>, share: &mut Share<B>, d: u
     requires pays { TakesBest x P.told.promise.gift (share_view share.old) }
     ensures same { IsSame share.old share.new }
     ensures view { share_known share.new ≡ offered_known P.told.promise.gift (share_known share.old) }
-    ensures rule { LeavesUnderRule field.now (gift_place (field_plan field.now) d) result (max result x) share.old share.new }
+    ensures rule { LeavesUnderRule field.now (offer_place field.now d) result (max result x) share.old share.new }
     ensures books { BooksStand B.view field.now share.old share.new }
 {
     let word = field.plan.gift_place(d) as usize;
@@ -60,7 +59,7 @@ pub fn lower_fault<B: Body, P: Told>(
     requires pays { TakesFault code P.told.promise.fault (share_view share.old) }
     ensures same { IsSame share.old share.new }
     ensures view { share_known share.new ≡ lowered_known code P.told.promise.fault (share_known share.old) }
-    ensures rule { LeavesUnderRule field.now (fault_place (field_plan field.now) d) result (min result code) share.old share.new }
+    ensures rule { LeavesUnderRule field.now (code_place field.now d) result (min result code) share.old share.new }
     ensures books { BooksStand B.view field.now share.old share.new }
 {
     let word = field.plan.fault_place(d) as usize;
