@@ -8,7 +8,7 @@ use lib.ListN.{get_elem?}
 use Rattle.atomic_table.specs.Table.{Me, keeps, takes, chain, Allows}
 use Rattle.atomic_table.proofs.Lists.{set_else}
 use Rattle.spd_words.specs.Plan.{PlanView, moves_place}
-use Rattle.spd_words.specs.Meaning.{Meaning}
+use Rattle.spd_words.specs.Meaning.{BodyView, Meaning}
 use Rattle.spd_state.specs.Stages.{drawn_view, full_view, first_slot, second_slot}
 use Rattle.spd_state.specs.declared.view.Draw.{Draw}
 use Rattle.spd_state.specs.declared.view.Draw.TheVariants.{Make, Chain, Spawn}
@@ -26,8 +26,9 @@ use Rattle.spd_debts.specs.BookRule.{BookRule}
 use Rattle.spd_debts.proofs.Draws.{chain_quiet, spawn_quiet}
 use Rattle.spd_debts.proofs.Drawing.{given, tame_of, make_stands, cut_stands, full_stands}
 use Rattle.spd_rule.specs.Steps.{MayPay}
+use Rattle.spd_rule.proofs.Resting.{fit_alike}
 use Rattle.spd_rule.proofs.Glue.{From, marked, marked_rule}
-use Rattle.spd_rule.specs.Kept.{Kept}
+use Rattle.spd_rule.specs.Kept.{means_of, Kept}
 use Rattle.spd_rule.specs.Steps.{MayDrawMove, DrawsMove}
 use Rattle.spd_rule.proofs.Glue.{allow_moves, unseen}
 
@@ -47,10 +48,10 @@ tame_by Make told n = tame_of told
 tame_by Chain told n = n
 tame_by Spawn told n = n
 
-module _ {B : Type 0} (means : B → Meaning) (p : PlanView) (slots id : ℕ) (me : Me (Option B) View) where
+module _ {B : Type 0} (told_of : B → BodyView) (p : PlanView) (slots id : ℕ) (me : Me (Option B) View) where
   pub draws : (draw : Draw) (told : Meaning) → slots ≡ 2 * p.moves → MayDrawMove draw told me.0 → 0 < me.0.seats
-      → Allows (Kept means p) slots id me moves_place (λ n. (n + 1) % 2 ^ 64) (λ n m'. DrawsMove p draw told n me m')
-  draws draw told size may seated = allow_moves means p slots id me (λ n. (n + 1) % 2 ^ 64) (λ n m'. DrawsMove p draw told n me m')
+      → Allows (Kept told_of p) slots id me moves_place (λ n. (n + 1) % 2 ^ 64) (λ n m'. DrawsMove p draw told n me m')
+  draws draw told size may seated = allow_moves told_of p slots id me (λ n. (n + 1) % 2 ^ 64) (λ n m'. DrawsMove p draw told n me m')
       (λ a homes vs from fits. let rule = from.rule in let m₁ = rule.plan.moves.most in let most = drawn_few p a homes vs rule in
       dite (dec_lt a.drawn p.moves)
       (λ room. let fresh = rule.slots.fresh a.drawn room (omega arith) in inl record {
@@ -67,8 +68,10 @@ module _ {B : Type 0} (means : B → Meaning) (p : PlanView) (slots id : ℕ) (m
           kept = marked_rule p (record a { drawn = a.drawn + 1 }) (set (set homes (second_slot draw a.drawn) none) (first_slot draw a.drawn) none) (set vs id (drawn_view draw a.drawn told me.0))
               (expects_by draw told a.expects) (region_by draw told a.region) (tame_by draw told a.tame)
               (draw_keeps p a homes vs rule id me.0 from.at seated (from.deep ∙ size) may.flight draw told may.maker may.free room);
-          shown = unseen means p slots id me a homes vs from (drawn_view draw a.drawn told me.0) refl;
+          shown = unseen told_of p slots id me a homes vs from (drawn_view draw a.drawn told me.0) refl;
           books = drawn_stands draw may.maker may.pays may.flight a homes vs from room;
+          fit = fit_alike told_of p.moves a.vertices homes (set (set homes (second_slot draw a.drawn) none) (first_slot draw a.drawn) none) from.fit
+              (alike draw a homes vs from room);
           tells = record { drawn = λ _. refl; full = λ k. absurd (omega arith); few = most };
         };
       })
@@ -84,14 +87,15 @@ module _ {B : Type 0} (means : B → Meaning) (p : PlanView) (slots id : ℕ) (m
           act = keeps;
           valid = tt;
           kept = full_keeps p a homes vs rule id me.0 from.at seated may.unmarked (omega arith);
-          shown = unseen means p slots id me a homes vs from (full_view me.0) refl;
+          shown = unseen told_of p slots id me a homes vs from (full_view me.0) refl;
           books = none_stands draw may.maker may.pays a homes vs from (omega arith);
+          fit = from.fit;
           tells = record { drawn = λ k. absurd (omega arith); full = λ _. refl; few = most };
         };
       }))
     where
       -- the two slots are of vertices that aren't stored
-      alike : (x : Draw) (a : Dag) (homes : List (maybe.Option (Option B))) (vs : List View) → From means p slots id me a homes vs → a.drawn < p.moves
+      alike : (x : Draw) (a : Dag) (homes : List (maybe.Option (Option B))) (vs : List View) → From told_of p slots id me a homes vs → a.drawn < p.moves
           → (i : ℕ) → i < 2 * p.moves → 0 < (a.vertices i).state → (a.vertices i).state < 3
           → get_elem? (set (set homes (second_slot x a.drawn) none) (first_slot x a.drawn) none) i ≡ get_elem? homes i
       alike x a homes vs from room i low s t = set_else (set homes (second_slot x a.drawn) none) (first_slot x a.drawn) i none (λ e. is_apart x e)
@@ -116,23 +120,23 @@ module _ {B : Type 0} (means : B → Meaning) (p : PlanView) (slots id : ℕ) (m
           is_apart₂ Spawn = rest
 
       drawn_stands : (x : Draw) → MayDraw x me.0 → MayPay x told me.0 → me.0.flight ≡ None
-          → (a : Dag) (homes : List (maybe.Option (Option B))) (vs : List View) → From means p slots id me a homes vs → a.drawn < p.moves
-          → BookRule means p (marked (record a { drawn = a.drawn + 1 }) (expects_by x told a.expects) (region_by x told a.region) (tame_by x told a.tame))
+          → (a : Dag) (homes : List (maybe.Option (Option B))) (vs : List View) → From told_of p slots id me a homes vs → a.drawn < p.moves
+          → BookRule (means_of told_of) p (marked (record a { drawn = a.drawn + 1 }) (expects_by x told a.expects) (region_by x told a.region) (tame_by x told a.tame))
           (set (set homes (second_slot x a.drawn) none) (first_slot x a.drawn) none) (set vs id (drawn_view x a.drawn told me.0))
       drawn_stands Make maker pays free a homes vs from room =
-          make_stands means p a homes vs from.rule from.books id me.0 from.at (set (set homes (second_slot Make a.drawn) none) (first_slot Make a.drawn) none) told maker.0 pays
-      drawn_stands Chain maker pays free a homes vs from room = cut_stands means p a homes vs from.rule from.books id me.0 from.at maker.0 maker.1 maker.2 pays
+          make_stands (means_of told_of) p a homes vs from.rule from.books id me.0 from.at (set (set homes (second_slot Make a.drawn) none) (first_slot Make a.drawn) none) told maker.0 pays
+      drawn_stands Chain maker pays free a homes vs from room = cut_stands (means_of told_of) p a homes vs from.rule from.books id me.0 from.at maker.0 maker.1 maker.2 pays
           (set (set homes (second_slot Chain a.drawn) none) (first_slot Chain a.drawn) none) (alike Chain a homes vs from room) free Chain chain_quiet told
-      drawn_stands Spawn maker pays free a homes vs from room = cut_stands means p a homes vs from.rule from.books id me.0 from.at maker.0 maker.1 maker.2 pays
+      drawn_stands Spawn maker pays free a homes vs from room = cut_stands (means_of told_of) p a homes vs from.rule from.books id me.0 from.at maker.0 maker.1 maker.2 pays
           (set (set homes (second_slot Spawn a.drawn) none) (first_slot Spawn a.drawn) none) (alike Spawn a homes vs from room) free Spawn spawn_quiet told
 
       none_stands : (x : Draw) → MayDraw x me.0 → MayPay x told me.0
-          → (a : Dag) (homes : List (maybe.Option (Option B))) (vs : List View) → From means p slots id me a homes vs → p.moves ≤ a.drawn
-          → BookRule means p (record a { drawn = a.drawn + 1 }) homes (set vs id (full_view me.0))
+          → (a : Dag) (homes : List (maybe.Option (Option B))) (vs : List View) → From told_of p slots id me a homes vs → p.moves ≤ a.drawn
+          → BookRule (means_of told_of) p (record a { drawn = a.drawn + 1 }) homes (set vs id (full_view me.0))
       none_stands Make maker pays a homes vs from full = let t = total_has (λ (u : View). u.fresh) vs id me.0 from.at in let f = maker.0 in
           let z = from.rule.history.unmade.none (omega arith) in let m = from.rule.plan.moves.some in absurd (omega arith)
-      none_stands Chain maker pays a homes vs from full = full_stands means p a homes vs from.rule from.books id me.0 from.at maker.0 maker.1 maker.2 pays
-      none_stands Spawn maker pays a homes vs from full = full_stands means p a homes vs from.rule from.books id me.0 from.at maker.0 maker.1 maker.2 pays
+      none_stands Chain maker pays a homes vs from full = full_stands (means_of told_of) p a homes vs from.rule from.books id me.0 from.at maker.0 maker.1 maker.2 pays
+      none_stands Spawn maker pays a homes vs from full = full_stands (means_of told_of) p a homes vs from.rule from.books id me.0 from.at maker.0 maker.1 maker.2 pays
 
       slots_there : (x : Draw) (d : ℕ) (homes : List (maybe.Option (Option B))) → get_elem? homes (2 * d) ≡ some (some None)
           → get_elem? homes (2 * d + 1) ≡ some (some None)

@@ -15,17 +15,17 @@ use Rattle.spd_state.specs.declared.view.View.{View}
 use Rattle.spd_state.specs.Shown.{ShownOk, AllShown}
 use Rattle.spd_state.proofs.Showing.{shown_kept}
 use Rattle.spd_state.proofs.Writes.{write_moves, write_node, write_pair, write_vertex, write_gift, write_fault, write_done}
-use Rattle.spd_words.specs.Meaning.{Meaning, Awaited}
+use Rattle.spd_words.specs.Meaning.{BodyView, Awaited}
 use Rattle.spd_debts.specs.BookRule.{BookRule}
 use Rattle.spd_rule.specs.Held.{Held, StepUnderRule}
-use Rattle.spd_rule.specs.Kept.{Kept, StepUnderBooks}
+use Rattle.spd_rule.specs.Kept.{FitHomes, means_of, Kept, StepUnderBooks}
 use Rattle.spd_rule.proofs.Conserved.{lay_there}
 use Rattle.spd_rule.proofs.Follows.{follows}
 
 -- what a step tells, it tells of a step under the rule
-module _ {B : Type 0} (means : B → Meaning) (p key picked : PlanView) (keyed : key ≡ p) (is : picked ≡ p) (slots id : ℕ) (me : Me (Option B) View) (place : ℕ) where
-  taken : (f : ℕ → ℕ) (then : ℕ → Me (Option B) View → Type 0) → Allows (Kept means p) slots id me place f then
-      → Allows (Kept means p) slots id me place f (λ n m'. then n m' × StepUnderBooks means p place n (f n) me m')
+module _ {B : Type 0} (told_of : B → BodyView) (p key picked : PlanView) (keyed : key ≡ p) (is : picked ≡ p) (slots id : ℕ) (me : Me (Option B) View) (place : ℕ) where
+  taken : (f : ℕ → ℕ) (then : ℕ → Me (Option B) View → Type 0) → Allows (Kept told_of p) slots id me place f then
+      → Allows (Kept told_of p) slots id me place f (λ n m'. then n m' × StepUnderBooks (means_of told_of) p place n (f n) me m')
   taken f then allowed s held deep at fits = let r = allowed s held deep at fits in (
     r.0,
     r.1,
@@ -54,22 +54,22 @@ module _ {B : Type 0} (means : B → Meaning) (p key picked : PlanView) (keyed :
     ),
   )
 
-  pub under_rule : (f : ℕ → ℕ) (then : ℕ → Me (Option B) View → Type 0) → Allows (Kept means p) slots id me place f then
-      → Allows (Kept means key) slots id me place f (λ n m'. then n m' × StepUnderBooks means picked place n (f n) me m')
-  under_rule f then allowed = subst (λ (k : PlanView). Allows (Kept means k) slots id me place f (λ n m'. then n m' × StepUnderBooks means picked place n (f n) me m'))
+  pub under_rule : (f : ℕ → ℕ) (then : ℕ → Me (Option B) View → Type 0) → Allows (Kept told_of p) slots id me place f then
+      → Allows (Kept told_of key) slots id me place f (λ n m'. then n m' × StepUnderBooks (means_of told_of) picked place n (f n) me m')
+  under_rule f then allowed = subst (λ (k : PlanView). Allows (Kept told_of k) slots id me place f (λ n m'. then n m' × StepUnderBooks (means_of told_of) picked place n (f n) me m'))
       (sym keyed)
-      (subst (λ (k : PlanView). Allows (Kept means p) slots id me place f (λ n m'. then n m' × StepUnderBooks means k place n (f n) me m')) (sym is) (taken f then allowed))
+      (subst (λ (k : PlanView). Allows (Kept told_of p) slots id me place f (λ n m'. then n m' × StepUnderBooks (means_of told_of) k place n (f n) me m')) (sym is) (taken f then allowed))
 
-  stored : (x : ℕ) (then : Me (Option B) View → Type 0) → Allows (Kept means p) slots id me place (λ _. x) (λ _. then)
-      → Allows (Kept means p) slots id me place (λ _. x) (λ _ m'. then m' × (w : ℕ) × StepUnderBooks means p place w x me m')
+  stored : (x : ℕ) (then : Me (Option B) View → Type 0) → Allows (Kept told_of p) slots id me place (λ _. x) (λ _. then)
+      → Allows (Kept told_of p) slots id me place (λ _. x) (λ _ m'. then m' × (w : ℕ) × StepUnderBooks (means_of told_of) p place w x me m')
   stored x then allowed s held deep at fits = let r = taken (λ _. x) (λ _. then) allowed s held deep at fits in
       (r.0, r.1, r.2, r.3, (r.4.0, get_or s.words place 0, r.4.1))
 
-  pub stores_under_rule : (x : ℕ) (tells : ℕ → Me (Option B) View → Type 0) → Allows (Kept means p) slots id me place (λ _. x) (λ _. tells x)
-      → Allows (Kept means key) slots id me place (λ _. x) (λ _ m'. tells x m' × (w : ℕ) × StepUnderBooks means picked place w x me m')
-  stores_under_rule x tells allowed = subst (λ (k : PlanView). Allows (Kept means k) slots id me place (λ _. x)
-      (λ _ m'. tells x m' × (w : ℕ) × StepUnderBooks means picked place w x me m')) (sym keyed)
-      (subst (λ (k : PlanView). Allows (Kept means p) slots id me place (λ _. x) (λ _ m'. tells x m' × (w : ℕ) × StepUnderBooks means k place w x me m')) (sym is)
+  pub stores_under_rule : (x : ℕ) (tells : ℕ → Me (Option B) View → Type 0) → Allows (Kept told_of p) slots id me place (λ _. x) (λ _. tells x)
+      → Allows (Kept told_of key) slots id me place (λ _. x) (λ _ m'. tells x m' × (w : ℕ) × StepUnderBooks (means_of told_of) picked place w x me m')
+  stores_under_rule x tells allowed = subst (λ (k : PlanView). Allows (Kept told_of k) slots id me place (λ _. x)
+      (λ _ m'. tells x m' × (w : ℕ) × StepUnderBooks (means_of told_of) picked place w x me m')) (sym keyed)
+      (subst (λ (k : PlanView). Allows (Kept told_of p) slots id me place (λ _. x) (λ _ m'. tells x m' × (w : ℕ) × StepUnderBooks (means_of told_of) k place w x me m')) (sym is)
       (stored x (tells x) allowed))
 
 module _ {B : Type 0} (p : PlanView) (id : ℕ) (me : Me (Option B) View) (place : ℕ) where
@@ -78,10 +78,10 @@ module _ {B : Type 0} (p : PlanView) (id : ℕ) (me : Me (Option B) View) (place
   IsBlank = (s : State (Option B) View) → Held p s → get_elem? s.views id ≡ some me.0 → get_or s.words place 0 ≡ 0
 
   -- a store onto such a word says that it found 0
-  pub stores_blank : (means : B → Meaning) (slots x : ℕ) (then : Me (Option B) View → Type 0) → IsBlank → Allows (Kept means p) slots id me place (λ _. x) (λ _. then)
-      → Allows (Kept means p) slots id me place (λ _. x) (λ _ m'. then m' × StepUnderRule p place 0 x me m')
-  stores_blank means slots x then blank allowed s held deep at fits =
-      let r = taken means p p p refl refl slots id me place (λ _. x) (λ _. then) allowed s held deep at fits in (
+  pub stores_blank : (told_of : B → BodyView) (slots x : ℕ) (then : Me (Option B) View → Type 0) → IsBlank → Allows (Kept told_of p) slots id me place (λ _. x) (λ _. then)
+      → Allows (Kept told_of p) slots id me place (λ _. x) (λ _ m'. then m' × StepUnderRule p place 0 x me m')
+  stores_blank told_of slots x then blank allowed s held deep at fits =
+      let r = taken told_of p p p refl refl slots id me place (λ _. x) (λ _. then) allowed s held deep at fits in (
         r.0,
         r.1,
         r.2,
@@ -139,7 +139,7 @@ marked_rule p a homes vs expects region tame rule = record {
   history = rule.history;
 }
 
-module _ {B : Type 0} (means : B → Meaning) (p : PlanView) (slots id : ℕ) (me : Me (Option B) View) where
+module _ {B : Type 0} (told_of : B → BodyView) (p : PlanView) (slots id : ℕ) (me : Me (Option B) View) where
   -- the new view and the act of a step, after which the typed words are those of b
   pub record Move (b : Dag) (homes : List (maybe.Option (Option B))) (vs : List View) (then : Me (Option B) View → Type 0) : Type 0 where
     pub view : View
@@ -147,14 +147,16 @@ module _ {B : Type 0} (means : B → Meaning) (p : PlanView) (slots id : ℕ) (m
     pub valid : Valid homes me.1 act
     pub kept : Rule p b (homes_after homes me.1 act) (set vs id view)
     pub shown : AllShown p.moves b.vertices (set vs id view)
-    pub books : BookRule means p b (homes_after homes me.1 act) (set vs id view)
+    pub books : BookRule (means_of told_of) p b (homes_after homes me.1 act) (set vs id view)
+    pub fit : FitHomes told_of p.moves b.vertices (homes_after homes me.1 act)
     pub tells : then (view, carried_after me.1 act)
 
   -- what a step may start from
   pub record From (a : Dag) (homes : List (maybe.Option (Option B))) (vs : List View) : Type 0 where
     pub rule : Rule p a homes vs
     pub shown : AllShown p.moves a.vertices vs
-    pub books : BookRule means p a homes vs
+    pub books : BookRule (means_of told_of) p a homes vs
+    pub fit : FitHomes told_of p.moves a.vertices homes
     pub gifts_fit : (d : ℕ) → d < p.moves → a.gifts d < 18446744073709551616
     pub deep : length homes ≡ slots
     pub at : get_elem? vs id ≡ some me.0
@@ -192,7 +194,7 @@ module _ {B : Type 0} (means : B → Meaning) (p : PlanView) (slots id : ℕ) (m
       → (f : ℕ → ℕ) (then : ℕ → Me (Option B) View → Type 0)
       → ((a : Dag) (homes : List (maybe.Option (Option B))) (vs : List View) → From a homes vs → Fits (read a) → pack (read a) < 18446744073709551616
       → Writes Fits pack change a (read a) f homes vs then ⊎ Leaves a (pack (read a)) f homes vs then)
-      → Allows (Kept means p) slots id me place f then
+      → Allows (Kept told_of p) slots id me place f then
   allow {W} Fits pack change read place found write f then step s held deep at fits =
       let a : Dag = held.held.dag in let n : ℕ = get_or s.words place 0 in let was = found a s.words held.held.written in let e : n ≡ pack (read a) = was.0 in ⊎_elim
       (λ (k : Writes Fits pack change a (read a) f s.homes s.views then). let m = k.move in (
@@ -209,6 +211,7 @@ module _ {B : Type 0} (means : B → Meaning) (p : PlanView) (slots id : ℕ) (m
             shown = m.shown;
           };
           books = m.books;
+          fit = m.fit;
         },
         subst (λ (x : ℕ). then x (m.view, carried_after me.1 m.act)) (sym e) m.tells,
       ))
@@ -225,15 +228,16 @@ module _ {B : Type 0} (means : B → Meaning) (p : PlanView) (slots id : ℕ) (m
             shown = m.shown;
           };
           books = m.books;
+          fit = m.fit;
         },
         subst (λ (x : ℕ). then x (m.view, carried_after me.1 m.act)) (sym e) m.tells,
       ))
-      (step a s.homes s.views record { rule = held.held.kept; shown = held.held.shown; books = held.books; gifts_fit = held.held.written.gifts_fit; deep = deep; at = at } was.1 (subst (λ (x : ℕ). x < 18446744073709551616) e fits))
+      (step a s.homes s.views record { rule = held.held.kept; shown = held.held.shown; books = held.books; fit = held.fit; gifts_fit = held.held.written.gifts_fit; deep = deep; at = at } was.1 (subst (λ (x : ℕ). x < 18446744073709551616) e fits))
 
   pub allow_moves : (f : ℕ → ℕ) (then : ℕ → Me (Option B) View → Type 0)
       → ((a : Dag) (homes : List (maybe.Option (Option B))) (vs : List View) → From a homes vs → a.drawn < 18446744073709551616
       → Writes (λ _. Unit {0}) (λ (x : ℕ). x) (λ b x. record b { drawn = x }) a a.drawn f homes vs then ⊎ Leaves a a.drawn f homes vs then)
-      → Allows (Kept means p) slots id me moves_place f then
+      → Allows (Kept told_of p) slots id me moves_place f then
   allow_moves f then step = allow (λ _. Unit {0}) (λ (x : ℕ). x) (λ b x. record b { drawn = x }) (λ b. b.drawn) moves_place (λ a ws h. (h.drawn, tt))
       (λ a ws x _ h. write_moves p a ws x h) f then (λ a homes vs from _. step a homes vs from)
 
@@ -242,7 +246,7 @@ module _ {B : Type 0} (means : B → Meaning) (p : PlanView) (slots id : ℕ) (m
       → pack_node (a.nodes d) < 18446744073709551616
       → Writes NodeFits pack_node (λ b x. record b { nodes = put b.nodes d x }) a (a.nodes d) f homes vs then
       ⊎ Leaves a (pack_node (a.nodes d)) f homes vs then)
-      → Allows (Kept means p) slots id me (node_place p d) f then
+      → Allows (Kept told_of p) slots id me (node_place p d) f then
   allow_node d low = allow NodeFits pack_node (λ b x. record b { nodes = put b.nodes d x }) (λ b. b.nodes d) (node_place p d)
       (λ a ws h. (h.nodes d low, h.nodes_fit d low)) (λ a ws x fit h. write_node p a ws d x low fit h)
 
@@ -251,7 +255,7 @@ module _ {B : Type 0} (means : B → Meaning) (p : PlanView) (slots id : ℕ) (m
       → pack_pair (a.pairs d) < 18446744073709551616
       → Writes PairFits pack_pair (λ b x. record b { pairs = put b.pairs d x }) a (a.pairs d) f homes vs then
       ⊎ Leaves a (pack_pair (a.pairs d)) f homes vs then)
-      → Allows (Kept means p) slots id me (pair_place p d) f then
+      → Allows (Kept told_of p) slots id me (pair_place p d) f then
   allow_pair d low = allow PairFits pack_pair (λ b x. record b { pairs = put b.pairs d x }) (λ b. b.pairs d) (pair_place p d)
       (λ a ws h. (h.pairs d low, h.pairs_fit d low)) (λ a ws x fit h. write_pair p a ws d x low fit h)
 
@@ -260,7 +264,7 @@ module _ {B : Type 0} (means : B → Meaning) (p : PlanView) (slots id : ℕ) (m
       → pack_vertex (a.vertices v) < 18446744073709551616
       → Writes VertexFits pack_vertex (λ b x. record b { vertices = put b.vertices v x }) a (a.vertices v) f homes vs then
       ⊎ Leaves a (pack_vertex (a.vertices v)) f homes vs then)
-      → Allows (Kept means p) slots id me (vertex_place p v) f then
+      → Allows (Kept told_of p) slots id me (vertex_place p v) f then
   allow_vertex v low = allow VertexFits pack_vertex (λ b x. record b { vertices = put b.vertices v x }) (λ b. b.vertices v) (vertex_place p v)
       (λ a ws h. (h.vertices v low, h.vertices_fit v low)) (λ a ws x fit h. write_vertex p a ws v x low fit h)
 
@@ -269,7 +273,7 @@ module _ {B : Type 0} (means : B → Meaning) (p : PlanView) (slots id : ℕ) (m
       → ((a : Dag) (homes : List (maybe.Option (Option B))) (vs : List View) → From a homes vs → a.gifts d < 18446744073709551616
       → Writes (λ (x : ℕ). x < 18446744073709551616) (λ (x : ℕ). x) (λ b x. record b { gifts = put b.gifts d x }) a (a.gifts d) f homes vs then
       ⊎ Leaves a (a.gifts d) f homes vs then)
-      → Allows (Kept means p) slots id me (gift_place p d) f then
+      → Allows (Kept told_of p) slots id me (gift_place p d) f then
   allow_gift d low f then step = allow (λ (x : ℕ). x < 18446744073709551616) (λ (x : ℕ). x) (λ b x. record b { gifts = put b.gifts d x }) (λ b. b.gifts d)
       (gift_place p d) (λ a ws h. (h.gifts d low, h.gifts_fit d low)) (λ a ws x fit h. write_gift p a ws d x low fit h) f then
       (λ a homes vs from fit _. step a homes vs from fit)
@@ -278,7 +282,7 @@ module _ {B : Type 0} (means : B → Meaning) (p : PlanView) (slots id : ℕ) (m
       → ((a : Dag) (homes : List (maybe.Option (Option B))) (vs : List View) → From a homes vs → a.faults d < 18446744073709551616
       → Writes (λ (x : ℕ). x < 18446744073709551616) (λ (x : ℕ). x) (λ b x. record b { faults = put b.faults d x }) a (a.faults d) f homes vs then
       ⊎ Leaves a (a.faults d) f homes vs then)
-      → Allows (Kept means p) slots id me (fault_place p d) f then
+      → Allows (Kept told_of p) slots id me (fault_place p d) f then
   allow_fault d low f then step = allow (λ (x : ℕ). x < 18446744073709551616) (λ (x : ℕ). x) (λ b x. record b { faults = put b.faults d x }) (λ b. b.faults d)
       (fault_place p d) (λ a ws h. (h.faults d low, h.faults_fit d low)) (λ a ws x fit h. write_fault p a ws d x low fit h) f then
       (λ a homes vs from fit _. step a homes vs from fit)
@@ -286,6 +290,6 @@ module _ {B : Type 0} (means : B → Meaning) (p : PlanView) (slots id : ℕ) (m
   pub allow_done : (f : ℕ → ℕ) (then : ℕ → Me (Option B) View → Type 0)
       → ((a : Dag) (homes : List (maybe.Option (Option B))) (vs : List View) → From a homes vs → a.done < 18446744073709551616
       → Writes (λ _. Unit {0}) (λ (x : ℕ). x) (λ b x. record b { done = x }) a a.done f homes vs then ⊎ Leaves a a.done f homes vs then)
-      → Allows (Kept means p) slots id me done_place f then
+      → Allows (Kept told_of p) slots id me done_place f then
   allow_done f then step = allow (λ _. Unit {0}) (λ (x : ℕ). x) (λ b x. record b { done = x }) (λ b. b.done) done_place (λ a ws h. (h.done, tt))
       (λ a ws x _ h. write_done p a ws x h) f then (λ a homes vs from _. step a homes vs from)

@@ -4,7 +4,7 @@ use mathlib.Core.Option.{some}
 use mathlib.Core.Option as maybe
 use Rattle.atomic_table.specs.Table.{Me, keeps, Allows}
 use Rattle.spd_words.specs.Plan.{PlanView, IsPlan, node_place, pair_place}
-use Rattle.spd_words.specs.Meaning.{Meaning}
+use Rattle.spd_words.specs.Meaning.{BodyView, Meaning}
 use Rattle.spd_words.specs.Words.{Pair, pair_with, PairFits, pack_pair}
 use Rattle.spd_words.specs.declared.finish_kind.FinishKind.{FinishKind}
 use Rattle.spd_words.specs.declared.finish_kind.FinishKind.TheVariants.{Plain, Sum, Least, Greatest}
@@ -26,7 +26,7 @@ use Rattle.spd_debts.proofs.Handed.{Handing, make_handing, chain_handing}
 use Rattle.spd_debts.proofs.Drawing.{given, make_root_stands, chain_root_stands, handed_stands, fork_stands}
 use Rattle.spd_rule.specs.Moves.{Flies, ChainTold, flight_with}
 use Rattle.spd_rule.proofs.Glue.{marked_rule}
-use Rattle.spd_rule.specs.Kept.{Kept}
+use Rattle.spd_rule.specs.Kept.{means_of, Kept}
 use Rattle.spd_rule.specs.Moves.{MaySetRoot, MaySetPair, HandsRoot, HandsTwo, root_set, pair_set, flight_pair_set, draw_in, pair_kind, IsPairOf}
 use Rattle.spd_rule.proofs.Glue.{From, allow_node, allow_pair, unseen}
 
@@ -61,10 +61,10 @@ pair_shown : (o : Option Flight) (second : ℕ) (left right : Meaning) (v : View
 pair_shown None second left right v = refl
 pair_shown (Some f) second left right v = flight_shown f.draw f second left right v
 
-module _ {B : Type 0} (means : B → Meaning) (p : PlanView) (slots id : ℕ) (me : Me (Option B) View) where
+module _ {B : Type 0} (told_of : B → BodyView) (p : PlanView) (slots id : ℕ) (me : Me (Option B) View) where
   pub sets_root : (d : ℕ) (told : Meaning) → d < p.moves → MaySetRoot d told me.0
-      → Allows (Kept means p) slots id me (node_place p d) (λ _. 2) (λ _ m'. m' ≡ (root_set d told me.0, me.1))
-  sets_root d told low may = allow_node means p slots id me d (omega arith) (λ _. 2) (λ _ m'. m' ≡ (root_set d told me.0, me.1))
+      → Allows (Kept told_of p) slots id me (node_place p d) (λ _. 2) (λ _ m'. m' ≡ (root_set d told me.0, me.1))
+  sets_root d told low may = allow_node told_of p slots id me d (omega arith) (λ _. 2) (λ _ m'. m' ≡ (root_set d told me.0, me.1))
       (λ a homes vs from fit fits. let draw : Draw = may.draw in let is : draw_in me.0.flight ≡ draw = ap draw_in may.flies in inl record {
         new = root_node;
         fits = record { twice = omega arith; version = omega arith };
@@ -80,28 +80,29 @@ module _ {B : Type 0} (means : B → Meaning) (p : PlanView) (slots id : ℕ) (m
               (root_expects draw d told a.expects) a.region a.tame
               (subst (λ (x : Draw). Rule p (record a { nodes = put a.nodes d root_node }) homes (set vs id (rooted_view x d told me.0))) (sym is)
               (root_keeps p a homes vs from.rule id me.0 from.at draw (opens_of draw may.opens) told d may.flies may.room));
-          shown = unseen means p slots id me a homes vs from (root_set d told me.0) refl;
-          books = subst (λ (x : Draw). BookRule means p (record a { nodes = put a.nodes d root_node; expects = root_expects draw d told a.expects }) homes
+          shown = unseen told_of p slots id me a homes vs from (root_set d told me.0) refl;
+          books = subst (λ (x : Draw). BookRule (means_of told_of) p (record a { nodes = put a.nodes d root_node; expects = root_expects draw d told a.expects }) homes
               (set vs id (rooted_view x d told me.0))) (sym is) (root_stands a homes vs from draw may.opens may.flies may.tells);
+          fit = from.fit;
           tells = refl;
         };
       })
     where
-      root_stands : (a : Dag) (homes : List (maybe.Option (Option B))) (vs : List View) (from : From means p slots id me a homes vs) (x : Draw) → x ≢ Spawn
+      root_stands : (a : Dag) (homes : List (maybe.Option (Option B))) (vs : List View) (from : From told_of p slots id me a homes vs) (x : Draw) → x ≢ Spawn
           → Flies x d d 0 me.0 → ChainTold x told me.0
-          → BookRule means p (record a { nodes = put a.nodes d root_node; expects = root_expects x d told a.expects }) homes (set vs id (rooted_view x d told me.0))
+          → BookRule (means_of told_of) p (record a { nodes = put a.nodes d root_node; expects = root_expects x d told a.expects }) homes (set vs id (rooted_view x d told me.0))
       root_stands a homes vs from Make o flies tells =
           let first : d ≡ 0 = (from.rule.history.makers id me.0 from.at).first (flight_with Make d d 0) flies refl in
-          subst (λ (n : ℕ). BookRule means p (record a { nodes = put a.nodes n root_node }) homes (set vs id (rooted_view Make n told me.0))) (sym first)
-          (make_root_stands means p a homes vs from.rule from.books id me.0 from.at told
+          subst (λ (n : ℕ). BookRule (means_of told_of) p (record a { nodes = put a.nodes n root_node }) homes (set vs id (rooted_view Make n told me.0))) (sym first)
+          (make_root_stands (means_of told_of) p a homes vs from.rule from.books id me.0 from.at told
           (flies ∙ ap (λ (n : ℕ). Some (flight_with Make n n 0)) first) may.room (put a.nodes 0 root_node))
-      root_stands a homes vs from Chain o flies tells = chain_root_stands means p a homes vs from.rule from.books id me.0 from.at told d flies may.room
+      root_stands a homes vs from Chain o flies tells = chain_root_stands (means_of told_of) p a homes vs from.rule from.books id me.0 from.at told d flies may.room
           (λ z. let t = tells z in (t.0.lawful, t.1)) (put a.nodes d root_node)
       root_stands a homes vs from Spawn o flies tells = absurd (o refl)
 
   pub sets_pair : (d : ℕ) (q : Pair) (left right : Meaning) → d < p.moves → PairFits q → MaySetPair d q left right me.0
-      → Allows (Kept means p) slots id me (pair_place p d) (λ _. pack_pair q) (λ _ m'. m' ≡ (pair_set me.0.flight q.second left right me.0, me.1))
-  sets_pair d q left right low fit may = allow_pair means p slots id me d low (λ _. pack_pair q) (λ _ m'. m' ≡ (pair_set me.0.flight q.second left right me.0, me.1))
+      → Allows (Kept told_of p) slots id me (pair_place p d) (λ _. pack_pair q) (λ _ m'. m' ≡ (pair_set me.0.flight q.second left right me.0, me.1))
+  sets_pair d q left right low fit may = allow_pair told_of p slots id me d low (λ _. pack_pair q) (λ _ m'. m' ≡ (pair_set me.0.flight q.second left right me.0, me.1))
       (λ a homes vs from _ fits. inl record {
         new = q;
         fits = fit;
@@ -115,34 +116,35 @@ module _ {B : Type 0} (means : B → Meaning) (p : PlanView) (slots id : ℕ) (m
           valid = tt;
           kept = ⊎_elim (root a homes vs from)
               (two a homes vs from) may;
-          shown = unseen means p slots id me a homes vs from (pair_set me.0.flight q.second left right me.0) (pair_shown me.0.flight q.second left right me.0);
+          shown = unseen told_of p slots id me a homes vs from (pair_set me.0.flight q.second left right me.0) (pair_shown me.0.flight q.second left right me.0);
           books = ⊎_elim (root_books a homes vs from) (two_books a homes vs from) may;
+          fit = from.fit;
           tells = refl;
         };
       })
     where
-      root_books : (a : Dag) (homes : List (maybe.Option (Option B))) (vs : List View) → From means p slots id me a homes vs → HandsRoot d q me.0
-          → BookRule means p (record a { pairs = put a.pairs d q }) homes (set vs id (pair_set me.0.flight q.second left right me.0))
+      root_books : (a : Dag) (homes : List (maybe.Option (Option B))) (vs : List View) → From told_of p slots id me a homes vs → HandsRoot d q me.0
+          → BookRule (means_of told_of) p (record a { pairs = put a.pairs d q }) homes (set vs id (pair_set me.0.flight q.second left right me.0))
       root_books a homes vs from h = let draw : Draw = h.draw in
-          subst (λ (o : Option Flight). BookRule means p (record a { pairs = put a.pairs d q }) homes (set vs id (pair_set o q.second left right me.0)))
-          (sym h.flies) (by draw h.opens (handed_stands means p a homes vs from.rule from.books id me.0 from.at draw (handing_of draw h.opens) d h.flies
+          subst (λ (o : Option Flight). BookRule (means_of told_of) p (record a { pairs = put a.pairs d q }) homes (set vs id (pair_set o q.second left right me.0)))
+          (sym h.flies) (by draw h.opens (handed_stands (means_of told_of) p a homes vs from.rule from.books id me.0 from.at draw (handing_of draw h.opens) d h.flies
           (put a.pairs d q)))
         where
-          by : (x : Draw) → x ≢ Spawn → BookRule means p (record a { pairs = put a.pairs d q }) homes (set vs id (handed_view x d me.0))
-              → BookRule means p (record a { pairs = put a.pairs d q }) homes
+          by : (x : Draw) → x ≢ Spawn → BookRule (means_of told_of) p (record a { pairs = put a.pairs d q }) homes (set vs id (handed_view x d me.0))
+              → BookRule (means_of told_of) p (record a { pairs = put a.pairs d q }) homes
               (set vs id (pair_set (Some record { draw = x; number = d; finish = d; stage = 1 }) q.second left right me.0))
           by Make o k = k
           by Chain o k = k
           by Spawn o k = absurd (o refl)
 
-      two_books : (a : Dag) (homes : List (maybe.Option (Option B))) (vs : List View) → From means p slots id me a homes vs → HandsTwo d q left right me.0
-          → BookRule means p (record a { pairs = put a.pairs d q }) homes (set vs id (pair_set me.0.flight q.second left right me.0))
+      two_books : (a : Dag) (homes : List (maybe.Option (Option B))) (vs : List View) → From told_of p slots id me a homes vs → HandsTwo d q left right me.0
+          → BookRule (means_of told_of) p (record a { pairs = put a.pairs d q }) homes (set vs id (pair_set me.0.flight q.second left right me.0))
       two_books a homes vs from h =
-          subst (λ (o : Option Flight). BookRule means p (record a { pairs = put a.pairs d q }) homes (set vs id (pair_set o q.second left right me.0)))
-          (sym h.flies) (fork_stands means p a homes vs from.rule from.books id me.0 from.at d h.finish q.first q.second h.flies h.claimed left.promise right.promise
+          subst (λ (o : Option Flight). BookRule (means_of told_of) p (record a { pairs = put a.pairs d q }) homes (set vs id (pair_set o q.second left right me.0)))
+          (sym h.flies) (fork_stands (means_of told_of) p a homes vs from.rule from.books id me.0 from.at d h.finish q.first q.second h.flies h.claimed left.promise right.promise
           (λ z. (h.tells z).owed) (put a.pairs d q))
 
-      root : (a : Dag) (homes : List (maybe.Option (Option B))) (vs : List View) → From means p slots id me a homes vs → HandsRoot d q me.0
+      root : (a : Dag) (homes : List (maybe.Option (Option B))) (vs : List View) → From told_of p slots id me a homes vs → HandsRoot d q me.0
           → Rule p (record a { pairs = put a.pairs d q }) homes (set vs id (pair_set me.0.flight q.second left right me.0))
       root a homes vs from h = let draw : Draw = h.draw in let kept = handed_keeps p a homes vs from.rule id me.0 from.at draw (hands_of draw h.opens) d
           (pair_kind me.0.gives) h.flies in
@@ -157,7 +159,7 @@ module _ {B : Type 0} (means : B → Meaning) (p : PlanView) (slots id : ℕ) (m
           by Chain o k = k
           by Spawn o k = absurd (o refl)
 
-      two : (a : Dag) (homes : List (maybe.Option (Option B))) (vs : List View) → From means p slots id me a homes vs → HandsTwo d q left right me.0
+      two : (a : Dag) (homes : List (maybe.Option (Option B))) (vs : List View) → From told_of p slots id me a homes vs → HandsTwo d q left right me.0
           → Rule p (record a { pairs = put a.pairs d q }) homes (set vs id (pair_set me.0.flight q.second left right me.0))
       two a homes vs from h = let kept = paired_keeps p a homes vs from.rule id me.0 from.at d h.finish q.first q.second h.flies h.claimed h.held h.lifted
           (known_under p a homes vs from.rule id me.0 from.at q.second h.finish h.known) left.promise right.promise in

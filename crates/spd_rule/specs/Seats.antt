@@ -22,11 +22,11 @@ pub record SeatStays {B : Type 0} (s t : Seat (Option B) View) : Type 0 where
 -- this.
 abbrev pub SeatMay : {B : Type 0} → (B → BodyView) → Field B → Seat (Option B) View → ℕ → (ℕ → ℕ)
     → (Me (Option B) View → ℕ → Me (Option B) View → Type 0) → Type 0
-SeatMay view f s word change tells = Allows (Kept (means_of view) f.plan) f.table.shared.table_id.slots s.id s.me word change (tells s.me)
+SeatMay view f s word change tells = Allows (Kept view f.plan) f.table.shared.table_id.slots s.id s.me word change (tells s.me)
 
 abbrev pub SeatMayStore : {B : Type 0} → (B → BodyView) → Field B → Seat (Option B) View → ℕ → ℕ
     → (Me (Option B) View → ℕ → Me (Option B) View → Type 0) → Type 0
-SeatMayStore view f s word x tells = Allows (Kept (means_of view) f.plan) f.table.shared.table_id.slots s.id s.me word (λ _. x)
+SeatMayStore view f s word x tells = Allows (Kept view f.plan) f.table.shared.table_id.slots s.id s.me word (λ _. x)
     (λ _. tells s.me x)
 
 -- An exchange of `old` for `new` found this.

@@ -10,7 +10,7 @@ use Rattle.spd_words.specs.Words.{Pair, Vertex, node_of, pack_pair, pack_vertex}
 use Rattle.spd_rule.specs.Moves.{MaySetVertex, pair_set}
 use Rattle.spd_rule.specs.Consequences.{IsFinished}
 use Rattle.spd_rule.specs.Held.{StepUnderRule}
-use Rattle.spd_rule.specs.Kept.{StepUnderBooks, means_of}
+use Rattle.spd_rule.specs.Kept.{StepUnderBooks, StartsFit, means_of}
 use Rattle.spd_rule.specs.declared.field.Field.{Field}
 use Rattle.spd_rule.specs.declared.field.Share.{Share}
 
@@ -70,6 +70,11 @@ ExchangesUnderRule f place seen next (Err w) s t = StepUnderRule f.plan place w 
 abbrev pub StartAnswer : {B : Type 0} → (B → Meaning) → Field B → ℕ → ℕ → Result ℕ ℕ → Share B → Share B → Type 0
 StartAnswer means f v seen (Ok w) s t = (w ≡ seen) × StartsVertex means f.plan v seen s.seat.me t.seat.me
 StartAnswer means f v seen (Err w) s t = (w ≢ seen) × LateStart v seen w s.seat.me t.seat.me
+
+-- the same of the body that lies in the slot
+abbrev pub StartIsFit : {B : Type 0} → (B → BodyView) → ℕ → Result ℕ ℕ → Share B → Share B → Type 0
+StartIsFit view v (Ok w) s t = StartsFit view v s.seat.me t.seat.me
+StartIsFit view v (Err w) s t = Unit {0}
 
 -- The claim found a handle left of the two at most.
 abbrev pub FindsHandle : Pair → Type 0

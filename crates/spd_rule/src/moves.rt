@@ -3,6 +3,7 @@
 ghost use Rattle.std.specs.Prelude.{◌≡◌, ◌+◌, ◌*◌, ◌<◌, ◌≤◌, ◌%◌, ◌^◌, ℕ, Option};
 ghost use Rattle.spd_words.specs.Plan.{moves_place, node_place, pair_place};
 ghost use Rattle.spd_words.specs.Words.{vertex_with};
+ghost use Rattle.spd_rule.specs.Kept.{SlotFits};
 ghost use Rattle.spd_rule.specs.Rest.{at_rest};
 ghost use Rattle.spd_rule.specs.Steps.{MayDrawMove};
 ghost use Rattle.spd_rule.specs.Moves.{MaySetRoot, MaySetPair, IsPairOf, IsVertexOf, fresh_pair, root_set, vertex_set};
@@ -88,6 +89,7 @@ pub fn set_vertex<B: Body>(
 )
     requires of { IsOf field.now share.old }
     requires numbers { IsVertexOf (field_plan field.now) v (vertex_with state side pair finish inc) }
+    requires fit { SlotFits B.view (share_known share.old) }
     requires may { MayStore (λ b. (B.view b).means) v (vertex_with state side pair finish inc) share.old }
     ensures same { IsSame share.old share.new }
     ensures view { share_known share.new ≡ at_rest (vertex_set (share_known share.old)) }

@@ -13,10 +13,10 @@ use std::marker::{Brand, PhantomData};
 pub struct DagRule {}
 
 impl<B: Body> TableRule<Option<B>, View, Plan> for DagRule {
-    ghost use Rattle.spd_rule.specs.Kept.{Kept, means_of};
+    ghost use Rattle.spd_rule.specs.Kept.{Kept};
     ghost use Rattle.spd_state.specs.Seats.{first_view};
 
-    ghost holds = { λ plan. Kept (means_of B.view) plan };
+    ghost holds = { λ plan. Kept B.view plan };
 
     ghost first = { λ _. first_view };
 }

@@ -1,7 +1,7 @@
 use Rattle.std.proofs.Common.{◌≡◌, ℕ, sym, subst}
 use Rattle.atomic_table.specs.Table.{Allows}
 use Rattle.spd_state.specs.declared.view.View.{View}
-use Rattle.spd_rule.specs.Kept.{Kept, means_of}
+use Rattle.spd_rule.specs.Kept.{Kept}
 use Rattle.spd_rule.specs.Payments.{runs_rest, shown_known}
 use Rattle.spd_rule.proofs.Likeness.{shown_mirrored, mirrors_like, like_due}
 use Rattle.spd_rule.proofs.Collecting.{looks_at_sum}
@@ -10,8 +10,8 @@ use Rattle.spd_rule.proofs.ends.see_sum.Goals as goal
 pub load-requires-clause-allows : goal.load-requires-clause-allows
 load-requires-clause-allows g c κs within = let share = c.args.share.now in let me = share.seat.me in let plan = c.args.field.now.plan in
     let slots : ℕ = c.args.field.now.table.shared.table_id.slots in
-    subst (λ (i : ℕ). Allows (Kept (means_of g.B.Body.view) plan) slots share.seat.id me i (λ n. n) (λ n m'. m' ≡ shown_known c.args.d n me))
-    (sym c.gift_place-word.ensures.place) (looks_at_sum (means_of g.B.Body.view) plan slots share.seat.id me c.args.d c.requires.finish)
+    subst (λ (i : ℕ). Allows (Kept g.B.Body.view plan) slots share.seat.id me i (λ n. n) (λ n m'. m' ≡ shown_known c.args.d n me))
+    (sym c.gift_place-word.ensures.place) (looks_at_sum g.B.Body.view plan slots share.seat.id me c.args.d c.requires.finish)
 
 pub invariant_of-share : goal.invariant_of-share
 invariant_of-share g c = let share = c.args.share.now in let z = share.seat.table_id in let after = c.load.new.seat in

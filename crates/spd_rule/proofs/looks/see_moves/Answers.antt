@@ -1,4 +1,3 @@
-use Rattle.spd_rule.specs.Kept.{means_of}
 use Rattle.spd_debts.specs.Payments.{sees_view}
 use Rattle.spd_rule.proofs.Likeness.{Mirrored, mirrors_like, like_due}
 use Rattle.std.proofs.Common.{refl}
@@ -7,7 +6,7 @@ use Rattle.spd_rule.proofs.looks.see_moves.Goals as goal
 
 pub load-requires-clause-allows : goal.load-requires-clause-allows
 load-requires-clause-allows g c κs within = let share = c.args.share.now in
-    looks_at_moves (means_of g.B.Body.view) c.args.field.now.plan c.args.field.now.table.shared.table_id.slots share.seat.id share.seat.me c.requires.may.marked
+    looks_at_moves g.B.Body.view c.args.field.now.plan c.args.field.now.table.shared.table_id.slots share.seat.id share.seat.me c.requires.may.marked
 
 pub invariant_of-share : goal.invariant_of-share
 invariant_of-share g c = let share = c.args.share.now in let z = share.seat.table_id in let after = c.load.new.seat in

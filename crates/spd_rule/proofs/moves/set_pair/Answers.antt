@@ -4,7 +4,7 @@ use Rattle.atomic_table.specs.Seated.{TableId}
 use Rattle.spd_words.specs.Words.{pair_with, pack_pair}
 use Rattle.spd_words.specs.Plan.{pair_place}
 use Rattle.spd_rule.specs.Held.{StepUnderRule}
-use Rattle.spd_rule.specs.Kept.{Kept, means_of}
+use Rattle.spd_rule.specs.Kept.{Kept}
 use Rattle.spd_rule.specs.Beside.{Mirrors}
 use Rattle.spd_rule.specs.Moves.{pair_set}
 use Rattle.spd_rule.proofs.Mirrors.{mirrors_pair, pair_due}
@@ -17,16 +17,16 @@ pub store-requires-clause-allows : goal.store-requires-clause-allows
 store-requires-clause-allows g c κs within = let share = c.args.share.now in let me = share.seat.me in let p = c.args.field.now.plan in
     let slots : ℕ = c.args.field.now.table.shared.table_id.slots in
     let q = pair_with 0 c.args.total c.args.kind c.args.first c.args.second in
-    subst (λ (x : ℕ). Allows (Kept (means_of g.B.Body.view) p) slots share.seat.id me c.pair_place-word.result (λ _. x)
+    subst (λ (x : ℕ). Allows (Kept g.B.Body.view p) slots share.seat.id me c.pair_place-word.result (λ _. x)
     (λ _ m'. (m' ≡ (pair_set me.0.flight c.args.second g.P.Told.told g.Q.Told.told me.0, me.1))
     × StepUnderRule p c.pair_place-word.result 0 x me m')) (sym c.pack-pair.ensures.word)
-    (subst (λ (i : ℕ). Allows (Kept (means_of g.B.Body.view) p) slots share.seat.id me i (λ _. pack_pair q)
+    (subst (λ (i : ℕ). Allows (Kept g.B.Body.view p) slots share.seat.id me i (λ _. pack_pair q)
     (λ _ m'. (m' ≡ (pair_set me.0.flight c.args.second g.P.Told.told g.Q.Told.told me.0, me.1)) × StepUnderRule p i 0 (pack_pair q) me m'))
     (sym c.pair_place-word.ensures.place)
-    (stores_blank p share.seat.id me (pair_place p c.args.d) (means_of g.B.Body.view) slots (pack_pair q)
+    (stores_blank p share.seat.id me (pair_place p c.args.d) g.B.Body.view slots (pack_pair q)
     (λ m'. m' ≡ (pair_set me.0.flight c.args.second g.P.Told.told g.Q.Told.told me.0, me.1))
     (pair_blank p share.seat.id me c.args.d q g.P.Told.told g.Q.Told.told c.requires.numbers.pair c.requires.may)
-    (sets_pair (means_of g.B.Body.view) p slots share.seat.id me c.args.d q g.P.Told.told g.Q.Told.told c.requires.numbers.pair
+    (sets_pair g.B.Body.view p slots share.seat.id me c.args.d q g.P.Told.told g.Q.Told.told c.requires.numbers.pair
     (pair_fits p c.args.field.now.lawful c.args.d q c.requires.numbers me.0 g.P.Told.told g.Q.Told.told c.requires.may) c.requires.may)))
 
 pub returns-clause-rule : goal.returns-clause-rule

@@ -6,7 +6,7 @@ use Rattle.spd_rule.specs.Held.{StepUnderRule}
 use Rattle.atomic_table.specs.Table.{Allows}
 use Rattle.spd_state.specs.declared.view.View.{View}
 use Rattle.spd_debts.specs.Payments.{offer_view}
-use Rattle.spd_rule.specs.Kept.{Kept, means_of}
+use Rattle.spd_rule.specs.Kept.{Kept}
 use Rattle.spd_rule.specs.Payments.{offered_known}
 use Rattle.spd_rule.proofs.Likeness.{Mirrored, mirrors_like, like_due}
 use Rattle.spd_rule.proofs.Offering.{offers_sum}
@@ -15,11 +15,11 @@ use Rattle.spd_rule.proofs.payments.add_sum.Goals as goal
 pub add-requires-clause-allows : goal.add-requires-clause-allows
 add-requires-clause-allows g c κs within = let share = c.args.share.now in let me = share.seat.me in let plan = c.args.field.now.plan in
     let slots : ℕ = c.args.field.now.table.shared.table_id.slots in
-    subst (λ (u : ℕ). Allows (Kept (means_of g.B.Body.view) plan) slots share.seat.id me c.gift_place-word.result (λ n. (n + u) % 2 ^ 64)
+    subst (λ (u : ℕ). Allows (Kept g.B.Body.view plan) slots share.seat.id me c.gift_place-word.result (λ n. (n + u) % 2 ^ 64)
     (λ n m'. m' ≡ offered_known g.P.Told.told.promise.gift me)) (sym (c.cast_unsigned.ensures ∙ ap (cast_unsigned w64) (to_z-of_z w64 c.args.x c.ranges.x)))
-    (subst (λ (i : ℕ). Allows (Kept (means_of g.B.Body.view) plan) slots share.seat.id me i (λ n. (n + cast_unsigned w64 c.args.x) % 2 ^ 64)
+    (subst (λ (i : ℕ). Allows (Kept g.B.Body.view plan) slots share.seat.id me i (λ n. (n + cast_unsigned w64 c.args.x) % 2 ^ 64)
     (λ n m'. m' ≡ offered_known g.P.Told.told.promise.gift me)) (sym c.gift_place-word.ensures.place)
-    (offers_sum (means_of g.B.Body.view) plan slots share.seat.id me c.args.d c.requires.finish c.requires.may c.args.x g.P.Told.told.promise.gift c.ranges.x
+    (offers_sum g.B.Body.view plan slots share.seat.id me c.args.d c.requires.finish c.requires.may c.args.x g.P.Told.told.promise.gift c.ranges.x
     c.requires.pays))
 
 pub returns-clause-rule : goal.returns-clause-rule

@@ -2,7 +2,7 @@ use Rattle.std.proofs.Common.{◌≡◌, ℕ, ◌+◌, ◌%◌, ◌^◌, sym, su
 use Rattle.atomic_table.specs.Table.{Allows}
 use Rattle.spd_state.specs.Steps.{add_view}
 use Rattle.spd_rule.specs.Held.{StepUnderRule}
-use Rattle.spd_rule.specs.Kept.{Kept, means_of}
+use Rattle.spd_rule.specs.Kept.{Kept}
 use Rattle.spd_rule.proofs.Likeness.{mirrors_hold, hold_due}
 use Rattle.spd_rule.proofs.Found.{root_live}
 use Rattle.spd_rule.proofs.Roots.{adds_root}
@@ -12,9 +12,9 @@ use Rattle.spd_rule.proofs.steps.add_root.Goals as goal
 pub add-old-requires-clause-allows : goal.add-old-requires-clause-allows
 add-old-requires-clause-allows g c κs within = let share = c.args.share.now in let me = share.seat.me in let plan = c.args.field.now.plan in
     let slots : ℕ = c.args.field.now.table.shared.table_id.slots in
-    subst (λ (i : ℕ). Allows (Kept (means_of g.B.Body.view) plan) slots share.seat.id me i (λ n. (n + 2) % 2 ^ 64) (λ n m'. m' ≡ (add_view c.args.d me.0, me.1)))
+    subst (λ (i : ℕ). Allows (Kept g.B.Body.view plan) slots share.seat.id me i (λ n. (n + 2) % 2 ^ 64) (λ n m'. m' ≡ (add_view c.args.d me.0, me.1)))
     (sym c.node_place-word.ensures.place)
-    (adds_root (means_of g.B.Body.view) plan slots share.seat.id me c.args.d c.requires.root c.requires.may.right c.requires.may.room)
+    (adds_root g.B.Body.view plan slots share.seat.id me c.args.d c.requires.root c.requires.may.right c.requires.may.room)
 
 pub hold-requires : goal.hold-requires
 hold-requires g c = let share = c.args.share.now in let e = same_length share.beside.units.items share.seat.me.0.held share.mirrors.units in

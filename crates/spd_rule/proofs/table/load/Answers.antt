@@ -1,11 +1,10 @@
 use Rattle.spd_rule.proofs.Glue.{under_rule}
-use Rattle.spd_rule.specs.Kept.{means_of}
 use Rattle.spd_rule.proofs.table.load.Goals as goal
 
 pub load-requires : goal.load-requires
 load-requires g c = let seat = c.args.seat.now in let table = c.args.field.now.table.shared in (
   c.requires.of.fits,
   c.requires.of.inside,
-  under_rule (means_of g.B.Body.view) c.args.field.now.plan table.key g.T.Tells.plan c.args.field.now.keyed c.requires.plan table.table_id.slots seat.id seat.me c.args.word
+  under_rule g.B.Body.view c.args.field.now.plan table.key g.T.Tells.plan c.args.field.now.keyed c.requires.plan table.table_id.slots seat.id seat.me c.args.word
       (λ n. n) (g.T.Tells.tells seat.me) c.requires.allows,
 )

@@ -1,5 +1,4 @@
 use Rattle.std.proofs.Common.{max}
-use Rattle.spd_rule.specs.Kept.{means_of}
 use Rattle.spd_rule.proofs.Glue.{under_rule}
 use Rattle.spd_rule.proofs.table.raise.Goals as goal
 
@@ -7,6 +6,6 @@ pub fetch_max-requires : goal.fetch_max-requires
 fetch_max-requires g c = let seat = c.args.seat.now in let table = c.args.field.now.table.shared in (
   c.requires.of.fits,
   c.requires.of.inside,
-  under_rule (means_of g.B.Body.view) c.args.field.now.plan table.key g.T.Tells.plan c.args.field.now.keyed c.requires.plan table.table_id.slots seat.id seat.me
+  under_rule g.B.Body.view c.args.field.now.plan table.key g.T.Tells.plan c.args.field.now.keyed c.requires.plan table.table_id.slots seat.id seat.me
       c.args.word (λ n. max n c.args.k) (g.T.Tells.tells seat.me) c.requires.allows,
 )

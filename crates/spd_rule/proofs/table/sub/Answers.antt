@@ -1,12 +1,11 @@
 use Rattle.std.proofs.Common.{◌+◌, ◌-◌, ◌%◌, ◌^◌}
 use Rattle.spd_rule.proofs.Glue.{under_rule}
-use Rattle.spd_rule.specs.Kept.{means_of}
 use Rattle.spd_rule.proofs.table.sub.Goals as goal
 
 pub fetch_sub-requires : goal.fetch_sub-requires
 fetch_sub-requires g c = let seat = c.args.seat.now in let table = c.args.field.now.table.shared in (
   c.requires.of.fits,
   c.requires.of.inside,
-  under_rule (means_of g.B.Body.view) c.args.field.now.plan table.key g.T.Tells.plan c.args.field.now.keyed c.requires.plan table.table_id.slots seat.id seat.me c.args.word
+  under_rule g.B.Body.view c.args.field.now.plan table.key g.T.Tells.plan c.args.field.now.keyed c.requires.plan table.table_id.slots seat.id seat.me c.args.word
       (λ n. (n + (2 ^ 64 - c.args.k)) % 2 ^ 64) (g.T.Tells.tells seat.me) c.requires.allows,
 )
