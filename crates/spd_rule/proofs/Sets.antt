@@ -1,5 +1,5 @@
 -- The table allows the words of a move in flight to be set.
-use Rattle.std.proofs.Common.{◌∙◌, ◌≡◌, ◌≢◌, ℕ, ◌<◌, List, set, refl, sym, ap, subst, arith, Option, Some, None, inl, ⊎_elim}
+use Rattle.std.proofs.Common.{true, ◌∙◌, ◌≡◌, ◌≢◌, ℕ, ◌<◌, List, set, refl, sym, ap, subst, arith, Option, Some, None, inl, ⊎_elim}
 use mathlib.Core.Option.{some}
 use mathlib.Core.Option as maybe
 use Rattle.atomic_table.specs.Table.{Me, keeps, Allows}
@@ -26,6 +26,11 @@ use Rattle.spd_debts.proofs.Handed.{Handing, make_handing, chain_handing}
 use Rattle.spd_debts.proofs.Drawing.{given, make_root_stands, chain_root_stands, handed_stands, fork_stands}
 use Rattle.spd_rule.specs.Moves.{Flies, ChainTold, flight_with}
 use Rattle.spd_rule.proofs.Glue.{marked_rule}
+use Rattle.atomic_table.specs.Seated.{TableId}
+use Rattle.spd_state.specs.Sums.{count}
+use Rattle.spd_rule.specs.Beside.{Mirrors}
+use Rattle.spd_rule.specs.Idle.{is_spawn, flies_spawn}
+use Rattle.spd_rule.specs.declared.beside.Beside.{Beside}
 use Rattle.spd_rule.specs.Kept.{means_of, Kept}
 use Rattle.spd_rule.specs.Moves.{MaySetRoot, MaySetPair, HandsRoot, HandsTwo, root_set, pair_set, flight_pair_set, draw_in, pair_kind, IsPairOf}
 use Rattle.spd_rule.proofs.Glue.{From, allow_node, allow_pair, unseen}
@@ -183,3 +188,15 @@ pair_fits p plan d q of v left right may = let m = plan.moves.most in let g = pl
     let n : q.kind ≡ 0 = ap (λ (x : Pair). x.kind) h.pair in
     record { claims = omega arith; total = omega arith; kind = omega arith; first = omega arith; second = omega arith })
     may
+
+-- a spawn that may set its pair holds the other unit beside its seat too
+spawn_is : (x : Draw) → is_spawn x ≡ true → x ≡ Spawn
+spawn_is Make e = absurd (cc)
+spawn_is Chain e = absurd (cc)
+spawn_is Spawn e = refl
+
+pub pair_has : {B : Type 0} (z : TableId) (me : Me (Option B) View) (b : Beside) → Mirrors z me b → (d : ℕ) (q : Pair) (left right : Meaning)
+    → MaySetPair d q left right me.0 → flies_spawn b.flight ≡ true → 0 < count q.second b.units.items
+pair_has z me b m d q left right may e = ⊎_elim
+    (λ (h : HandsRoot d q me.0). absurd (h.opens (spawn_is h.draw (sym (ap flies_spawn (m.flight ∙ h.flies)) ∙ e))))
+    (λ (h : HandsTwo d q left right me.0). let u = m.units q.second in let k = h.held in omega arith) may

@@ -52,3 +52,11 @@ pub record StepUnderBooks {B : Type 0} (means : B → Meaning) (p : PlanView) (p
   pub step : StepUnderRule p place found left me me'
   pub books_before : BookRule means p step.held.dag step.before.homes step.before.views
   pub books_after : BookRule means p step.kept.dag step.after.homes step.after.views
+
+-- A share that had the view and the slots `me`, and then `me'`, took one step under the rule, just before which and just after which the books
+-- stood.
+pub record StandsAround {B : Type 0} (means : B → Meaning) (p : PlanView) (me me' : Me (Option B) View) : Type 0 where
+  pub place : ℕ
+  pub found : ℕ
+  pub left : ℕ
+  pub step : StepUnderBooks means p place found left me me'

@@ -6,7 +6,7 @@ use Rattle.atomic_table.specs.declared.shared.Seat.{Seat}
 use Rattle.spd_state.specs.declared.view.View.{View}
 use Rattle.spd_words.specs.Meaning.{BodyView}
 use Rattle.spd_rule.specs.Held.{StepUnderRule}
-use Rattle.spd_rule.specs.Kept.{Kept, StepUnderBooks, means_of}
+use Rattle.spd_rule.specs.Kept.{Kept, StandsAround, means_of}
 use Rattle.spd_rule.specs.declared.field.Field.{Field}
 
 -- The seat is one of the field's table, which has this word.
@@ -33,11 +33,6 @@ SeatMayStore view f s word x tells = Allows (Kept view f.plan) f.table.shared.ta
 abbrev pub SeatExchanged : {B : Type 0} → Field B → ℕ → ℕ → ℕ → ℕ → Seat (Option B) View → Seat (Option B) View → Type 0
 SeatExchanged f word old new found s t = StepUnderRule f.plan word found (either (found == old) new found) s.me t.me
 
--- The seat found this word, and left that one in its place, while the books stood.
-abbrev pub SeatUnderBooks : {B : Type 0} → (B → BodyView) → Field B → ℕ → ℕ → ℕ → Seat (Option B) View → Seat (Option B) View → Type 0
-SeatUnderBooks view f word found left s t = StepUnderBooks (means_of view) f.plan word found left s.me t.me
-
--- the same of an exchange
-abbrev pub SeatExchangedUnderBooks : {B : Type 0} → (B → BodyView) → Field B → ℕ → ℕ → ℕ → ℕ → Seat (Option B) View → Seat (Option B) View
-    → Type 0
-SeatExchangedUnderBooks view f word old new found s t = SeatUnderBooks view f word found (either (found == old) new found) s t
+-- The seat took one step under the rule, just before which and just after which the books stood.
+abbrev pub SeatBooks : {B : Type 0} → (B → BodyView) → Field B → Seat (Option B) View → Seat (Option B) View → Type 0
+SeatBooks view f s t = StandsAround (means_of view) f.plan s.me t.me

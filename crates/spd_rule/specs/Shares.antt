@@ -10,7 +10,7 @@ use Rattle.spd_words.specs.Words.{Pair, Vertex, node_of, pack_pair, pack_vertex}
 use Rattle.spd_rule.specs.Moves.{MaySetVertex, pair_set}
 use Rattle.spd_rule.specs.Consequences.{IsFinished}
 use Rattle.spd_rule.specs.Held.{StepUnderRule}
-use Rattle.spd_rule.specs.Kept.{StepUnderBooks, StartsFit, means_of}
+use Rattle.spd_rule.specs.Kept.{StandsAround, StartsFit, means_of}
 use Rattle.spd_rule.specs.declared.field.Field.{Field}
 use Rattle.spd_rule.specs.declared.field.Share.{Share}
 
@@ -127,4 +127,4 @@ MayStore means i x s = MaySetVertex means i x s.seat.me
 
 -- The share took one step under the rule, just before which and just after which the books stood.
 abbrev pub BooksStand : {B : Type 0} → (B → BodyView) → Field B → Share B → Share B → Type 0
-BooksStand view f s t = (place found left : ℕ) × StepUnderBooks (means_of view) f.plan place found left s.seat.me t.seat.me
+BooksStand view f s t = StandsAround (means_of view) f.plan s.seat.me t.seat.me

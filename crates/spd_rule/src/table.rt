@@ -4,7 +4,7 @@
 ghost use Rattle.std.specs.Prelude.{◌≡◌, ◌+◌, ◌-◌, ◌<◌, ◌%◌, ◌^◌, ◌==◌, ℕ, max, min};
 ghost use prog.Atomic.{either};
 ghost use Rattle.spd_rule.specs.Held.{StepUnderRule};
-ghost use Rattle.spd_rule.specs.Seats.{IsOfTable, SeatStays, SeatMay, SeatMayStore, SeatExchanged, SeatUnderBooks, SeatExchangedUnderBooks};
+ghost use Rattle.spd_rule.specs.Seats.{IsOfTable, SeatStays, SeatMay, SeatMayStore, SeatExchanged, SeatBooks};
 
 use crate::field::Field;
 use crate::rule::{Adds, Exchanges, Loads, Lowers, Raises, Stores, Subs, Tells};
@@ -25,7 +25,7 @@ pub(crate) fn load<B: Body, X, T: Tells<B>>(
     ensures same { SeatStays seat.old seat.new }
     ensures tells { T.tells seat.old.me result seat.new.me }
     ensures rule { StepUnderRule field.now.plan word result result seat.old.me seat.new.me }
-    ensures books { SeatUnderBooks B.view field.now word result result seat.old seat.new }
+    ensures books { SeatBooks B.view field.now seat.old seat.new }
 {
     let _ = about;
     field.table.shared.load::<Loads<T>>(seat, word)
@@ -45,7 +45,7 @@ pub(crate) fn add<B: Body, X, T: Tells<B>>(
     ensures same { SeatStays seat.old seat.new }
     ensures tells { T.tells seat.old.me result seat.new.me }
     ensures rule { StepUnderRule field.now.plan word result ((result + k) % 2 ^ 64) seat.old.me seat.new.me }
-    ensures books { SeatUnderBooks B.view field.now word result ((result + k) % 2 ^ 64) seat.old seat.new }
+    ensures books { SeatBooks B.view field.now seat.old seat.new }
 {
     let _ = about;
     field.table.shared.fetch_add::<Adds<T>>(seat, word, k)
@@ -65,7 +65,7 @@ pub(crate) fn sub<B: Body, X, T: Tells<B>>(
     ensures same { SeatStays seat.old seat.new }
     ensures tells { T.tells seat.old.me result seat.new.me }
     ensures rule { StepUnderRule field.now.plan word result ((result + (2 ^ 64 - k)) % 2 ^ 64) seat.old.me seat.new.me }
-    ensures books { SeatUnderBooks B.view field.now word result ((result + (2 ^ 64 - k)) % 2 ^ 64) seat.old seat.new }
+    ensures books { SeatBooks B.view field.now seat.old seat.new }
 {
     let _ = about;
     field.table.shared.fetch_sub::<Subs<T>>(seat, word, k)
@@ -86,7 +86,7 @@ pub(crate) fn exchange<B: Body, X, T: Tells<B>>(
     ensures same { SeatStays seat.old seat.new }
     ensures tells { T.tells seat.old.me result seat.new.me }
     ensures rule { SeatExchanged field.now word old new result seat.old seat.new }
-    ensures books { SeatExchangedUnderBooks B.view field.now word old new result seat.old seat.new }
+    ensures books { SeatBooks B.view field.now seat.old seat.new }
 {
     let _ = about;
     field
@@ -109,7 +109,7 @@ pub(crate) fn store<B: Body, X, T: Tells<B>>(
     ensures same { SeatStays seat.old seat.new }
     ensures tells { T.tells seat.old.me x seat.new.me }
     ensures rule { (w : ℕ) × StepUnderRule field.now.plan word w x seat.old.me seat.new.me }
-    ensures books { (w : ℕ) × SeatUnderBooks B.view field.now word w x seat.old seat.new }
+    ensures books { SeatBooks B.view field.now seat.old seat.new }
 {
     let _ = about;
     field.table.shared.store::<Stores<T>>(seat, word, x)
@@ -129,7 +129,7 @@ pub(crate) fn raise<B: Body, X, T: Tells<B>>(
     ensures same { SeatStays seat.old seat.new }
     ensures tells { T.tells seat.old.me result seat.new.me }
     ensures rule { StepUnderRule field.now.plan word result (max result k) seat.old.me seat.new.me }
-    ensures books { SeatUnderBooks B.view field.now word result (max result k) seat.old seat.new }
+    ensures books { SeatBooks B.view field.now seat.old seat.new }
 {
     let _ = about;
     field.table.shared.fetch_max::<Raises<T>>(seat, word, k)
@@ -149,7 +149,7 @@ pub(crate) fn lower<B: Body, X, T: Tells<B>>(
     ensures same { SeatStays seat.old seat.new }
     ensures tells { T.tells seat.old.me result seat.new.me }
     ensures rule { StepUnderRule field.now.plan word result (min result k) seat.old.me seat.new.me }
-    ensures books { SeatUnderBooks B.view field.now word result (min result k) seat.old seat.new }
+    ensures books { SeatBooks B.view field.now seat.old seat.new }
 {
     let _ = about;
     field.table.shared.fetch_min::<Lowers<T>>(seat, word, k)

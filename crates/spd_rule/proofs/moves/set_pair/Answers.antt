@@ -10,7 +10,7 @@ use Rattle.spd_rule.specs.Moves.{pair_set}
 use Rattle.spd_rule.proofs.Mirrors.{mirrors_pair, pair_due}
 use Rattle.spd_rule.proofs.Glue.{stores_blank}
 use Rattle.spd_rule.proofs.Blanks.{pair_blank}
-use Rattle.spd_rule.proofs.Sets.{sets_pair, pair_fits}
+use Rattle.spd_rule.proofs.Sets.{pair_has, sets_pair, pair_fits}
 use Rattle.spd_rule.proofs.moves.set_pair.Goals as goal
 
 pub store-requires-clause-allows : goal.store-requires-clause-allows
@@ -42,4 +42,11 @@ invariant_of-share g c = let share = c.args.share.now in record {
       (pair_with 0 c.args.total c.args.kind c.args.first c.args.second) g.P.Told.told g.Q.Told.told c.requires.may c.store.ensures.tells.0 c.pair.ensures.root c.pair.ensures.spawn);
   holds = pair_due c.args.d
       (pair_with 0 c.args.total c.args.kind c.args.first c.args.second) g.P.Told.told g.Q.Told.told share.seat.me c.store.new.seat.me c.requires.may c.store.ensures.tells.0 share.holds;
+}
+
+pub pair-requires : goal.pair-requires
+pair-requires g c = record {
+  held = λ e. let share = c.args.share.now in
+      pair_has share.seat.table_id share.seat.me share.beside share.mirrors c.args.d (pair_with 0 c.args.total c.args.kind c.args.first c.args.second) g.P.Told.told
+      g.Q.Told.told c.requires.may e;
 }
