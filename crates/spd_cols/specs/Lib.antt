@@ -1,0 +1,4 @@
+pub mod Values
+pub mod Columns
+pub mod Answers
+pub mod Rows

@@ -1,0 +1,12 @@
+//! The columns of CSV and lines files, by definitions over whole files.
+#![tactic(auto)]
+
+mod csv_columns;
+mod fault;
+mod line_pieces;
+mod rows;
+mod value;
+
+pub use csv_columns::{int_column, text_column};
+pub use fault::{DataFault, DataKind};
+pub use line_pieces::lines;
