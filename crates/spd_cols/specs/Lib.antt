@@ -2,3 +2,4 @@ pub mod Values
 pub mod Columns
 pub mod Answers
 pub mod Rows
+pub mod Loading

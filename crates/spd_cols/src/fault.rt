@@ -2,6 +2,7 @@
 
 ghost use Rattle.std.specs.Prelude.{◌≡◌, ◌+◌};
 ghost use Rattle.spd_cols.specs.Columns.{most_entries};
+ghost use Rattle.spd_cols.specs.Loading.{refusal_of};
 ghost use Rattle.spd_cols.specs.declared.fault.DataKind.TheVariants.{NoMemory, TooMany};
 
 use std::alloc::AllocError;
@@ -53,5 +54,29 @@ impl From<AllocError> for DataFault {
             row: 0,
             kind: DataKind::NoMemory,
         }
+    }
+}
+
+/// Why the columns of a program were not loaded. Columns are numbered from 0, in the order of their
+/// declarations.
+#[derive(Clone, Copy, Debug, PartialEq, Eq, Drop, Error)]
+pub enum LoadFault {
+    /// The file of a column can't be read.
+    #[error("the file of column {column} can't be read")]
+    Failed { column: u32 },
+    /// The file of a column is refused.
+    #[error("column {column}, {fault}")]
+    Refused { column: u32, fault: DataFault },
+    #[error("out of memory")]
+    NoMemory,
+}
+
+/// The fault of a column whose file is refused, or that memory ran out.
+pub(crate) fn refused(column: u32, fault: DataFault) -> LoadFault
+    ensures { result ≡ refusal_of column fault }
+{
+    match fault.kind {
+        DataKind::NoMemory => LoadFault::NoMemory,
+        _ => LoadFault::Refused { column, fault },
     }
 }

@@ -4,9 +4,11 @@
 mod csv_columns;
 mod fault;
 mod line_pieces;
+mod loading;
 mod rows;
 mod value;
 
 pub use csv_columns::{int_column, text_column};
-pub use fault::{DataFault, DataKind};
+pub use fault::{DataFault, DataKind, LoadFault};
 pub use line_pieces::lines;
+pub use loading::load;
