@@ -109,7 +109,8 @@ pub fn load<F: Shelf>(alloc: Global, program: &Program, shelf: &mut F) -> Result
     ensures files { KeepsFiles (F.state shelf.old) (F.state shelf.new) }
     ensures counts { ShelfKeepsFaults (F.state shelf.old) (F.state shelf.new) }
     // No count changes but those of the files up to the one that ended it.
-    ensures others { (name : List ℕ) → spec.IsNoFileOf name (spec.reached (spec.declarations program.now.items) result) →
+    ensures others { (name : List ℕ) →
+        spec.IsNoFileOf name (spec.reached (spec.declarations program.now.items) result) →
         (F.state shelf.new).faults name ≡ (F.state shelf.old).faults name }
 {
     let mut data = Data::new(alloc);
