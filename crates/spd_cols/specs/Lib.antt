@@ -1,0 +1,5 @@
+pub mod Values
+pub mod Columns
+pub mod Answers
+pub mod Rows
+pub mod Loading
