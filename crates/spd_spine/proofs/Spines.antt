@@ -17,7 +17,7 @@ use Rattle.spd_level.specs.declared.frame.Flow.TheVariants as flow
 use Rattle.spd_level.specs.declared.level.Level.{Level}
 use Rattle.spd_level.proofs.Turns.{entered}
 use Rattle.spd_machine.specs.declared.job.Job.{Job}
-use Rattle.spd_spine.specs.Walk.{main_eval, EndsSo, spine_context, left_so, left_with, spine_left, size_with, spine_size, PutSoFar, PutBeforeJob, job_acts, total_of_job, MeetsJob, EndsMain, EndTold, TurnsSo, SpineTurned, GoesOn}
+use Rattle.spd_spine.specs.Walk.{behind_job, main_eval, EndsSo, spine_context, left_so, left_with, spine_left, size_with, spine_size, PutSoFar, PutBeforeJob, job_acts, total_of_job, MeetsJob, EndsMain, EndTold, TurnsSo, SpineTurned, GoesOn}
 use Rattle.spd_spine.specs.declared.turn.End.{End}
 use Rattle.spd_spine.specs.declared.turn.End.TheVariants as end
 use Rattle.spd_spine.specs.declared.turn.SpineTurn.{SpineTurn}
@@ -63,15 +63,18 @@ goes_on o n was is_now code columns os ns p falls =
 -- A spine whose level came to a job, for which it waits.
 pub meets : (o n : Spine) (at : SinkState) (job : Job) (line : ℕ) (binds : _) → n.code ≡ o.code → n.columns ≡ o.columns → o.standing ≡ standing.Runs →
     n.standing ≡ standing.Waits line binds →
-    (rest : Eval ℤ) → left_so (spine_context o) (standing.Waits line binds) n.level (total_of_job (spine_context o) job) ≡ rest →
-    PutBeforeJob (level_eval (spine_context o) o.level) (before (job_acts (spine_context o) job.body) rest) at at →
-    printed (job_acts (spine_context o) job.body) ≡ [] → 4 * work_of rest.given + length n.level.frames.items < level_size (spine_context o) o.level →
+    PutBeforeJob (level_eval (spine_context o) o.level)
+    (before (job_acts (spine_context o) job.body) (behind_job (spine_context o) n.level line binds (total_of_job (spine_context o) job))) at at →
+    printed (job_acts (spine_context o) job.body) ≡ [] →
+    4 * work_of (behind_job (spine_context o) n.level line binds (total_of_job (spine_context o) job)).given + length n.level.frames.items
+    < level_size (spine_context o) o.level →
     MeetsJob (spine_context o) (spine_left o) (spine_size o) n at at job
-meets o n at job line binds code columns os ns rest r p z falls =
+meets o n at job line binds code columns os ns p z falls =
     let total = total_of_job (spine_context o) job in
+    let rest = behind_job (spine_context o) n.level line binds total in
     let same : spine_context n ≡ spine_context o = rw (code, columns) refl in
     let ln : left_with n total ≡ rest = ap (λ (st : Standing). left_so (spine_context n) st n.level total) ns
-    ∙ ap (λ (x : Context). left_so x (standing.Waits line binds) n.level total) same ∙ r in
+    ∙ ap (λ (x : Context). behind_job x n.level line binds total) same in
     let acts = job_acts (spine_context o) job.body in
     record {
       next = told_of_same (spine_left o) (level_eval (spine_context o) o.level) (before acts (left_with n total)) (before acts rest) at at (left_runs o os)

@@ -11,7 +11,7 @@ use Rattle.spd_spine.specs.Walk.{spine_context, spine_left}
 use Rattle.spd_spine.specs.declared.spine.Spine.{Spine}
 use Rattle.spd_spine.specs.declared.spine.Standing.TheVariants as standing
 use Rattle.spd_spine.proofs.Putting.{gets_nothing, front_of, front_of_none}
-use Rattle.spd_spine.proofs.Walking.{stepped, step_falls, line_front, block_job, finish_rest, finish_met, finish_falls, finish_no_line, call_job, call_rest, call_met, call_falls, call_no_line, over_met}
+use Rattle.spd_spine.proofs.Walking.{stepped, step_falls, line_front, block_job, finish_met, finish_falls, finish_no_line, call_job, call_met, call_falls, call_no_line, over_met}
 use Rattle.spd_spine.proofs.Spines.{left_runs, front_runs, told_of_same, goes_on, meets, turn_ends}
 use Rattle.spd_spine.proofs.walk.walk.Goals as goal
 
@@ -68,7 +68,7 @@ returns-in_ok-vars-in-Finish-clause-turned g c =
     let at = g.O.Sink.state c.args.out.now in
     let h = rw c.in-Finish.is at c.in_ok-turn.ensures in
     let job : Job = record { kind = f.kind; body = block_job x o.level k f vars same h } in
-    meets o n at job f.line f.binds refl refl c.requires.standing refl (finish_rest x o.level k f vars same h) refl
+    meets o n at job f.line f.binds refl refl c.requires.standing refl
     (finish_met x o.level k f vars same h at) (finish_no_line x o.level k f vars same h) (finish_falls x o.level k f vars same h)
 
 pub returns-else-not-binds-clause-turned : goal.returns-else-not-binds-clause-turned
@@ -83,7 +83,7 @@ returns-else-not-binds-clause-turned g c =
     let h = rw c.in-Call.is at c.in_ok-turn.ensures in
     let law = c.requires.main in
     let job : Job = record { kind = kind.Sum; body = call_job x o.level k f law binds h } in
-    meets o n at job 0 f.binds refl refl c.requires.standing refl (call_rest x o.level k f law binds h) refl
+    meets o n at job 0 f.binds refl refl c.requires.standing refl
     (call_met x o.level k f law binds h at) (call_no_line x o.level k f law binds h) (call_falls x o.level k f law binds h)
 
 pub returns-in-Over-clause-turned : goal.returns-in-Over-clause-turned
