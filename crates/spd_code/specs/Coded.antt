@@ -1,5 +1,5 @@
 -- The evaluation of a code, by places: what a machine that runs it is held to.
-use Rattle.std.specs.Prelude.{Result, ℕ, zero, suc, ◌-ℤ◌, List, [], ◌∷◌, ◌++◌, length, map, slice_get, ℤ, pos, Ok, true, false, None, Some, unwrap_or}
+use Rattle.std.specs.Prelude.{Result, ℕ, zero, suc, ◌-ℤ◌, List, [], ◌∷◌, ◌++◌, length, map, slice_get, ℤ, Ok, true, false, Some, unwrap_or}
 use Rattle.spd_words.specs.declared.finish_kind.FinishKind.TheVariants as kind
 use Rattle.spd_code.specs.declared.expr.CodeExpr.{CodeExpr, fold-CodeExpr}
 use Rattle.spd_code.specs.declared.expr.CodeExpr.TheOpen as expr
@@ -120,11 +120,3 @@ calls_of context (suc left) =
 -- what stands around statements where so many more calls may be opened
 abbrev pub around_of : Context → ℕ → Around ℕ
 around_of context left = record { column = context.column; calls = calls_of context left }
-
--- ---- codes without columns
-
-abbrev pub no_column : ℕ → ColumnView
-no_column number = record { length = pos 0; number = λ i. None; text = λ i. None }
-
-abbrev pub context_of : CodeTree → Context
-context_of code = record { code = code; column = no_column }

@@ -4,8 +4,8 @@ use Rattle.std.specs.Prelude.{true, false, unwrap_or}
 use Rattle.spd_code.specs.declared.stmt.CodeBlock.{CodeBlock, out-CodeBlock}
 use Rattle.spd_code.specs.declared.stmt.CodeStmt.{CodeStmt}
 use Rattle.spd_code.specs.declared.tree.CodeItem.{CodeItem}
-use Rattle.spd_meaning.specs.Acts.{Offer, Line, Call, Begin, Over, Tick, work_of, Async, said}
-use Rattle.spd_meaning.specs.Eval.{Fell, Back, Fault, Eval, quiet, before, counted, with_values, cut, call_of}
+use Rattle.spd_meaning.specs.Acts.{Offer, Line, Call, Begin, Over, Tick, work_of}
+use Rattle.spd_meaning.specs.Eval.{Fell, Fault, Eval, quiet, before, counted, with_values, cut, call_of}
 use Rattle.spd_code.specs.Coded.{Context, run_code, no_item, item_at, around_of, eval_stmt}
 use Rattle.spd_code.specs.Places.{bind_if}
 use Rattle.spd_level.specs.Turn.{AreCalled, IsCallee, KnowsCallee, says, LevelTurn, StatementDone, behind_step, StepFalls, StepPays}

@@ -1,12 +1,7 @@
 -- Values and texts that are found from left to right, up to the first fault.
-use Rattle.std.specs.Prelude.{◌≡◌, ℕ, List, ◌++◌, ℤ, Result, Ok, Err}
+use Rattle.std.specs.Prelude.{◌≡◌, ℕ, List, ◌++◌, ℤ, Result, Ok, Err, Option, Some, None}
 use Rattle.std.specs.Global.{Vec}
-use Rattle.spd_meaning.specs.Values.{Around, no_more}
-use Rattle.spd_code.specs.Coded.{no_column}
-
--- a program without columns, whose expressions open no call
-abbrev pub bare : Around ℕ
-bare = record { column = no_column; calls = no_more }
+use Rattle.std.specs.Borrow.{Bor}
 
 -- values as a list
 abbrev pub value_list : Result (Vec ℤ) ℕ → Result (List ℤ) ℕ
@@ -32,3 +27,8 @@ text_onto text (Err code) = Err code
 abbrev pub IsPut : List ℕ → List ℕ → Result (Unit {0}) ℕ → Result (List ℕ) ℕ → Type 0
 IsPut old new (Ok _) part = (text : List ℕ) × (part ≡ Ok text) × (new ≡ old ++ text)
 IsPut old new (Err code) part = part ≡ Err code
+
+-- the bytes of an entry that was found
+abbrev pub text_seen : Option (Bor (List ℕ)) → Option (List ℕ)
+text_seen (Some bytes) = Some bytes.now
+text_seen None = None

@@ -1,3 +1,4 @@
+pub mod Columns
 pub mod Left
 pub mod Turn
 pub mod Found

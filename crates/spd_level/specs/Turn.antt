@@ -4,7 +4,7 @@ use Rattle.spd_code.specs.declared.tree.CodeItem.{CodeItem}
 use Rattle.spd_code.specs.declared.tree.CodeTree.{CodeTree}
 use Rattle.spd_meaning.specs.Acts.{Acts, Offer, Code, Line, Begin, Call, Over, work_of, said}
 use Rattle.spd_meaning.specs.Eval.{Eval, before, async_of, finish_of, call_of}
-use Rattle.spd_code.specs.Coded.{Context, item_returned, item_at, around_of, eval_block, context_of}
+use Rattle.spd_code.specs.Coded.{Context, item_returned, item_at, around_of, eval_block}
 use Rattle.spd_code.specs.Places.{bind_if}
 use Rattle.spd_level.specs.Left.{level_now, frame_left, level_left, level_eval}
 use Rattle.spd_level.specs.declared.frame.Frame.{Frame}
@@ -73,24 +73,24 @@ module _ (context : Context) where
     pub callee : KnowsCallee by
     pub goes_on : StepPays by (work_of given) n new
 
--- ---- the same at a code, as the calls say it
+-- ---- the same, as the calls say it
 
 -- A level took a turn.
-abbrev pub WholeTurn : CodeTree → Level → Level → Step → Type 0
-WholeTurn code old new by = LevelTurn (context_of code) (level_eval (context_of code) old) (length old.frames.items) new by
+abbrev pub WholeTurn : Context → Level → Level → Step → Type 0
+WholeTurn context old new by = LevelTurn context (level_eval context old) (length old.frames.items) new by
 
 -- A level from which this frame was taken took a turn in it.
-abbrev pub FrameTurn : CodeTree → Frame → Level → Level → Step → Type 0
-FrameTurn code frame old new by =
-    LevelTurn (context_of code) (level_left (context_of code) old (frame_left (context_of code) frame (level_now old))) (length old.frames.items + 1) new by
+abbrev pub FrameTurn : Context → Frame → Level → Level → Step → Type 0
+FrameTurn context frame old new by =
+    LevelTurn context (level_left context old (frame_left context frame (level_now old))) (length old.frames.items + 1) new by
 
 -- A level ran a statement that evaluates so.
-abbrev pub StatementTurn : CodeTree → Level → Level → Step → Eval ℤ → Type 0
-StatementTurn code old new by a = LevelTurn (context_of code) (level_left (context_of code) old a) (length old.frames.items) new by
+abbrev pub StatementTurn : Context → Level → Level → Step → Eval ℤ → Type 0
+StatementTurn context old new by a = LevelTurn context (level_left context old a) (length old.frames.items) new by
 
 -- A level went into what evaluates so, and nothing was given.
-abbrev pub GoesInto : CodeTree → Level → Level → Eval ℤ → Type 0
-GoesInto code old new a = level_left (context_of code) old a ≡ level_eval (context_of code) new
+abbrev pub GoesInto : Context → Level → Level → Eval ℤ → Type 0
+GoesInto context old new a = level_left context old a ≡ level_eval context new
 
 -- A level ran a statement that needs no frame: what it evaluates to is what the step says and what runs now.
 abbrev pub StatementDone : Level → Level → Step → Eval ℤ → Type 0

@@ -6,8 +6,8 @@ ghost use Rattle.spd_words.specs.Total.{ended};
 ghost use Rattle.spd_meaning.specs.Acts.{Begin, Async};
 ghost use Rattle.spd_meaning.specs.Eval.{quiet, before, with_value, cut, async_of, finish_end};
 ghost use Rattle.spd_meaning.specs.Meaning.{chosen};
-ghost use Rattle.spd_code.specs.Coded.{code_value, context_of, around_of, eval_block};
-ghost use Rattle.spd_level.specs.Found.{bare};
+ghost use Rattle.spd_code.specs.Coded.{Context, code_value, around_of, eval_block};
+ghost use Rattle.spd_level.specs.Columns.{around_columns, context_of};
 ghost use Rattle.spd_code.specs.Places.{bind_if};
 ghost use Rattle.spd_level.specs.Left.{level_now, level_left, level_eval, loop_rest};
 ghost use Rattle.spd_level.specs.Turn.{FrameTurn, GoesInto};
@@ -20,6 +20,7 @@ use crate::level::Level;
 use crate::step::Step;
 use crate::value::value_of;
 use spd_code::{CodeBlock, CodeExpr};
+use spd_data::Data;
 use spd_words::{Given, NO_FAULT};
 use std::alloc::AllocError;
 use std::mem;
@@ -31,17 +32,19 @@ impl<'a> Level<'a> {
         cond: &CodeExpr,
         first: &'a CodeBlock,
         second: &'a CodeBlock,
+        columns: &Data,
         line: u32,
         left: u32,
     ) -> Result<(), AllocError>
         requires { self.old.flow ≡ flow.Fell }
         ensures frames { IfOk result (λ _. length self.new.frames.items ≤ length self.old.frames.items + 1) }
-        ensures comes { (code : CodeTree) → IfOk result (λ _. GoesInto code self.old self.new
-            (with_value (code_value bare cond.now self.old.vars.items line) (λ v. cut (length self.old.vars.items)
-            (chosen v (eval_block (around_of (context_of code) left) first.now)
-            (eval_block (around_of (context_of code) left) second.now) self.old.vars.items)))) }
+        ensures comes { (code : CodeTree) → IfOk result (λ _. GoesInto (context_of code columns.now) self.old self.new
+            (with_value (code_value (around_columns columns.now) cond.now self.old.vars.items line)
+            (λ v. cut (length self.old.vars.items)
+            (chosen v (eval_block (around_of (context_of code columns.now) left) first.now)
+            (eval_block (around_of (context_of code columns.now) left) second.now) self.old.vars.items)))) }
     {
-        match value_of(cond, self.vars.as_slice(), line) {
+        match value_of(cond, columns, self.vars.as_slice(), line) {
             Ok(0) => self.enter(second, left),
             Ok(_) => self.enter(first, left),
             Err(code) => {
@@ -55,9 +58,9 @@ impl<'a> Level<'a> {
     fn enter(&mut self, block: &'a CodeBlock, left: u32) -> Result<(), AllocError>
         requires { self.old.flow ≡ flow.Fell }
         ensures frames { IfOk result (λ _. length self.new.frames.items ≤ length self.old.frames.items + 1) }
-        ensures comes { (code : CodeTree) → IfOk result (λ _. GoesInto code self.old self.new
+        ensures comes { (context : Context) → IfOk result (λ _. GoesInto context self.old self.new
             (cut (length self.old.vars.items)
-            (eval_block (around_of (context_of code) left) block.now self.old.vars.items))) }
+            (eval_block (around_of context left) block.now self.old.vars.items))) }
     {
         let floor = self.vars.len();
         self.frames.push(Frame::Block {
@@ -75,18 +78,19 @@ impl<'a> Level<'a> {
         from: &CodeExpr,
         to: &CodeExpr,
         body: &'a CodeBlock,
+        columns: &Data,
         line: u32,
         left: u32,
     ) -> Result<(), AllocError>
         requires { self.old.flow ≡ flow.Fell }
         ensures frames { IfOk result (λ _. length self.new.frames.items ≤ length self.old.frames.items + 1) }
-        ensures comes { (code : CodeTree) → IfOk result (λ _. GoesInto code self.old self.new
-            (with_value (code_value bare from.now self.old.vars.items line)
-            (λ a. with_value (code_value bare to.now self.old.vars.items line)
-            (λ b. loop_rest (context_of code) left body.now a b self.old.vars.items)))) }
+        ensures comes { (code : CodeTree) → IfOk result (λ _. GoesInto (context_of code columns.now) self.old self.new
+            (with_value (code_value (around_columns columns.now) from.now self.old.vars.items line)
+            (λ a. with_value (code_value (around_columns columns.now) to.now self.old.vars.items line)
+            (λ b. loop_rest (context_of code columns.now) left body.now a b self.old.vars.items)))) }
     {
-        match value_of(from, self.vars.as_slice(), line) {
-            Ok(at) => match value_of(to, self.vars.as_slice(), line) {
+        match value_of(from, columns, self.vars.as_slice(), line) {
+            Ok(at) => match value_of(to, columns, self.vars.as_slice(), line) {
                 Ok(end) => {
                     self.frames.push(Frame::For {
                         body,
@@ -117,8 +121,8 @@ impl<'a> Level<'a> {
         left: u32,
     ) -> Result<(), AllocError>
         requires { self.old.flow ≡ flow.Fell }
-        ensures { (code : CodeTree) → IfOk result (λ _.
-            FrameTurn code (frame.For body.entry at end left) self.old self.new step.Quiet) }
+        ensures { (context : Context) → IfOk result (λ _.
+            FrameTurn context (frame.For body.entry at end left) self.old self.new step.Quiet) }
     {
         if at >= end {
             return Ok(());
@@ -144,10 +148,10 @@ impl<'a> Level<'a> {
     pub fn hold(&mut self, body: &'a CodeBlock, left: u32) -> Result<(), AllocError>
         requires { self.old.flow ≡ flow.Fell }
         ensures frames { IfOk result (λ _. length self.new.frames.items ≡ length self.old.frames.items + 2) }
-        ensures left { (code : CodeTree) → IfOk result (λ _.
-            level_left (context_of code) self.old (async_of self.old.vars.items
-            (eval_block (around_of (context_of code) left) body.now self.old.vars.items))
-            ≡ before (Begin Async ∷ []) (level_eval (context_of code) self.new)) }
+        ensures left { (context : Context) → IfOk result (λ _.
+            level_left context self.old (async_of self.old.vars.items
+            (eval_block (around_of context left) body.now self.old.vars.items))
+            ≡ before (Begin Async ∷ []) (level_eval context self.new)) }
     {
         let vars = copy_of(&self.vars)?;
         let saved = mem::replace(&mut self.vars, vars);
@@ -163,7 +167,7 @@ impl<'a> Level<'a> {
 
     /// The end of an async that ran inside.
     pub(crate) fn leave(&mut self, saved: Vec<i64>) -> Step<'a>
-        ensures { (code : CodeTree) → FrameTurn code (frame.Async saved) self.old self.new result }
+        ensures { (context : Context) → FrameTurn context (frame.Async saved) self.old self.new result }
     {
         self.vars = saved;
         match mem::replace(&mut self.flow, Flow::Fell) {

@@ -5,8 +5,8 @@ ghost use Rattle.spd_code.specs.declared.tree.CodeTree.{CodeTree};
 ghost use Rattle.spd_meaning.specs.Acts.{Begin, Call};
 ghost use Rattle.spd_meaning.specs.Eval.{before, counted, with_values, call_of, value_back};
 ghost use Rattle.spd_meaning.specs.Values.{all_values};
-ghost use Rattle.spd_code.specs.Coded.{code_value, item_returned, context_of, around_of};
-ghost use Rattle.spd_level.specs.Found.{bare};
+ghost use Rattle.spd_code.specs.Coded.{Context, code_value, item_returned, around_of};
+ghost use Rattle.spd_level.specs.Columns.{around_columns, context_of};
 ghost use Rattle.spd_code.specs.Places.{bind_if, fitted};
 ghost use Rattle.spd_level.specs.Left.{flow_end, called_in, level_left, level_eval};
 ghost use Rattle.spd_level.specs.Turn.{AreCalled, FrameTurn, StatementTurn};
@@ -19,6 +19,7 @@ use crate::level::Level;
 use crate::step::{CallAt, Step};
 use crate::value::values_of;
 use spd_code::{CodeExprs, CodeItems};
+use spd_data::Data;
 use std::alloc::AllocError;
 use std::mem;
 
@@ -30,19 +31,21 @@ impl<'a> Level<'a> {
         callee: u32,
         args: &CodeExprs,
         binds: bool,
+        columns: &Data,
         line: u32,
         left: u32,
     ) -> Result<Step<'a>, AllocError>
         requires { self.old.flow ≡ flow.Fell }
         ensures { (code : CodeTree) → AreCalled binds items.now code → IfOk result (λ step.
-            StatementTurn code self.old self.new step (counted
-            (with_values (all_values (map (λ e. code_value bare e self.old.vars.items line) args.now))
+            StatementTurn (context_of code columns.now) self.old self.new step (counted (with_values
+            (all_values (map (λ e. code_value (around_columns columns.now) e self.old.vars.items line) args.now))
             (λ vs. call_of (bind_if binds self.old.vars.items)
-            (called_in (context_of code) left items.now callee vs line))))) }
+            (called_in (context_of code columns.now) left items.now callee vs line))))) }
     {
         match values_of(
             *self.vars.allocator(),
             args.as_slice(),
+            columns,
             self.vars.as_slice(),
             line,
         )? {
@@ -73,10 +76,10 @@ impl<'a> Level<'a> {
     pub fn go_in(&mut self, call: CallAt<'a>) -> Result<(), AllocError>
         requires { self.old.flow ≡ flow.Fell }
         ensures frames { IfOk result (λ _. length self.new.frames.items ≡ length self.old.frames.items + 2) }
-        ensures left { (code : CodeTree) → IfOk result (λ _.
-            level_left (context_of code) self.old (call_of (bind_if call.entry.binds self.old.vars.items)
-            (item_returned (around_of (context_of code) call.entry.left) call.entry.item.now call.entry.args.items))
-            ≡ before (Begin Call ∷ []) (level_eval (context_of code) self.new)) }
+        ensures left { (context : Context) → IfOk result (λ _.
+            level_left context self.old (call_of (bind_if call.entry.binds self.old.vars.items)
+            (item_returned (around_of context call.entry.left) call.entry.item.now call.entry.args.items))
+            ≡ before (Begin Call ∷ []) (level_eval context self.new)) }
     {
         let CallAt {
             binds,
@@ -98,8 +101,8 @@ impl<'a> Level<'a> {
 
     /// The end of a call.
     pub(crate) fn come_back(&mut self, saved: Vec<i64>, binds: bool) -> Result<(), AllocError>
-        ensures { (code : CodeTree) → IfOk result (λ _.
-            FrameTurn code (frame.Call saved binds) self.old self.new step.Quiet) }
+        ensures { (context : Context) → IfOk result (λ _.
+            FrameTurn context (frame.Call saved binds) self.old self.new step.Quiet) }
     {
         self.vars = saved;
         match came_back(&self.flow) {
@@ -129,7 +132,7 @@ impl<'a> Level<'a> {
 
     /// The end of a job that is a call.
     pub(crate) fn give(&mut self) -> Step<'a>
-        ensures { (code : CodeTree) → FrameTurn code frame.Gift self.old self.new result }
+        ensures { (context : Context) → FrameTurn context frame.Gift self.old self.new result }
     {
         self.vars.truncate(0);
         match came_back(&self.flow) {

@@ -1,8 +1,8 @@
 // A level, its beginnings, and its turns.
 
 ghost use Rattle.std.specs.Prelude.{◌≡◌, ℕ, ◌+◌, ◌∷◌, [], IfOk, length};
-ghost use Rattle.spd_code.specs.declared.tree.CodeTree.{CodeTree};
-ghost use Rattle.spd_code.specs.Coded.{context_of};
+ghost use Rattle.spd_code.specs.Coded.{Context};
+ghost use Rattle.spd_level.specs.Columns.{context_of};
 ghost use Rattle.spd_level.specs.Left.{level_eval, item_job};
 ghost use Rattle.spd_level.specs.Turn.{FrameTurn, WholeTurn};
 ghost use Rattle.spd_level.specs.declared.frame.Flow.TheVariants as flow;
@@ -12,6 +12,7 @@ use crate::calls::fit;
 use crate::frame::{Flow, Frame};
 use crate::step::Step;
 use spd_code::{CodeBlock, CodeItem, CodeTree};
+use spd_data::Data;
 use std::alloc::AllocError;
 
 /// Statements under way that offer to one finish.
@@ -53,8 +54,8 @@ impl<'a> Level<'a> {
     /// is offered.
     pub fn of_call(item: &'a CodeItem, left: u32, args: Vec<i64>) -> Result<Level<'a>, AllocError>
         ensures frames { IfOk result (λ level. length level.frames.items ≡ 2) }
-        ensures left { (code : CodeTree) → IfOk result (λ level.
-            level_eval (context_of code) level ≡ item_job (context_of code) left item.now args.items) }
+        ensures left { (context : Context) → IfOk result (λ level.
+            level_eval context level ≡ item_job context left item.now args.items) }
     {
         let vars = fit(args, item.params)?;
         let mut frames = Vec::new(*vars.allocator());
@@ -74,8 +75,8 @@ impl<'a> Level<'a> {
 
     /// One turn: a statement, a turn of a loop, or a frame that is taken off. What was left of the
     /// level is what the turn gives, and then what is left behind what it met.
-    pub fn turn(&mut self, code: &'a CodeTree) -> Result<Step<'a>, AllocError>
-        ensures { IfOk result (λ step. WholeTurn code.now self.old self.new step) }
+    pub fn turn(&mut self, code: &'a CodeTree, columns: &Data) -> Result<Step<'a>, AllocError>
+        ensures { IfOk result (λ step. WholeTurn (context_of code.now columns.now) self.old self.new step) }
     {
         match self.frames.pop() {
             None => Ok(Step::Over),
@@ -88,7 +89,7 @@ impl<'a> Level<'a> {
                 },
             ) => match self.flow {
                 Flow::Fell => {
-                    let step = self.next_of(code, block, next, floor, left)?;
+                    let step = self.next_of(code, columns, block, next, floor, left)?;
                     Ok(step)
                 }
                 Flow::Back(_) => Ok(Step::Quiet),
@@ -122,6 +123,7 @@ impl<'a> Level<'a> {
     fn next_of(
         &mut self,
         code: &'a CodeTree,
+        columns: &Data,
         block: &'a CodeBlock,
         next: u32,
         floor: usize,
@@ -129,7 +131,8 @@ impl<'a> Level<'a> {
     ) -> Result<Step<'a>, AllocError>
         requires { self.old.flow ≡ flow.Fell }
         ensures { IfOk result (λ step.
-            FrameTurn code.now (frame.Block block.entry next floor left) self.old self.new step) }
+            FrameTurn (context_of code.now columns.now) (frame.Block block.entry next floor left)
+            self.old self.new step) }
     {
         if next >= block.stmts.len() {
             self.vars.truncate(floor);
@@ -141,7 +144,7 @@ impl<'a> Level<'a> {
             floor,
             left,
         })?;
-        let step = self.statement(code, block.stmts.get(next), left)?;
+        let step = self.statement(code, columns, block.stmts.get(next), left)?;
         Ok(step)
     }
 }

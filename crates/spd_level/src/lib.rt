@@ -3,6 +3,7 @@
 
 mod blocks;
 mod calls;
+mod columns;
 mod frame;
 mod level;
 mod statements;

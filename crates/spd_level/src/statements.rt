@@ -5,8 +5,8 @@ ghost use Rattle.spd_meaning.specs.Acts.{Offer, Line};
 ghost use Rattle.spd_meaning.specs.Eval.{Fell, Back, quiet, before, with_value, with_line};
 ghost use Rattle.spd_meaning.specs.Values.{all_texts};
 ghost use Rattle.spd_meaning.specs.Meaning.{collecting};
-ghost use Rattle.spd_code.specs.Coded.{code_value, code_part_value, context_of, around_of, eval_stmt};
-ghost use Rattle.spd_level.specs.Found.{bare};
+ghost use Rattle.spd_code.specs.Coded.{code_value, code_part_value, around_of, eval_stmt};
+ghost use Rattle.spd_level.specs.Columns.{around_columns, context_of};
 ghost use Rattle.spd_code.specs.Places.{bind_if, put_at};
 ghost use Rattle.spd_level.specs.Turn.{StatementDone, StatementTurn};
 ghost use Rattle.spd_level.specs.declared.frame.Flow.TheVariants as flow;
@@ -18,6 +18,7 @@ use crate::step::{FinishAt, Step};
 use crate::text::text_of;
 use crate::value::value_of;
 use spd_code::{CodeExpr, CodeParts, CodeStmt, CodeStmtKind, CodeTree};
+use spd_data::Data;
 use spd_syntax::Collect;
 use spd_words::FinishKind;
 use std::alloc::AllocError;
@@ -27,20 +28,29 @@ impl<'a> Level<'a> {
     pub(crate) fn statement(
         &mut self,
         code: &'a CodeTree,
+        columns: &Data,
         stmt: &'a CodeStmt,
         left: u32,
     ) -> Result<Step<'a>, AllocError>
         requires { self.old.flow ≡ flow.Fell }
-        ensures { IfOk result (λ step. StatementTurn code.now self.old self.new step
-            (eval_stmt (around_of (context_of code.now) left) stmt.now self.old.vars.items)) }
+        ensures { IfOk result (λ step. StatementTurn (context_of code.now columns.now) self.old self.new
+            step (eval_stmt (around_of (context_of code.now columns.now) left) stmt.now self.old.vars.items)) }
     {
         match &stmt.what {
             CodeStmtKind::Let { value } => {
-                self.bind(value, stmt.line)?;
+                self.bind(value, columns, stmt.line)?;
                 Ok(Step::Quiet)
             }
             CodeStmtKind::LetCall { callee, args } => {
-                let step = self.call(&code.functions, *callee, args, true, stmt.line, left)?;
+                let step = self.call(
+                    &code.functions,
+                    *callee,
+                    args,
+                    true,
+                    columns,
+                    stmt.line,
+                    left,
+                )?;
                 Ok(step)
             }
             CodeStmtKind::LetFinish { kind, body } => Ok(Step::Finish(FinishAt {
@@ -51,15 +61,15 @@ impl<'a> Level<'a> {
                 body,
             })),
             CodeStmtKind::Assign { place, value } => {
-                self.assign(*place, value, stmt.line);
+                self.assign(*place, value, columns, stmt.line);
                 Ok(Step::Quiet)
             }
             CodeStmtKind::If { cond, yes, no } => {
-                self.choose(cond, yes, no, stmt.line, left)?;
+                self.choose(cond, yes, no, columns, stmt.line, left)?;
                 Ok(Step::Quiet)
             }
             CodeStmtKind::For { from, to, body } => {
-                self.begin_for(from, to, body, stmt.line, left)?;
+                self.begin_for(from, to, body, columns, stmt.line, left)?;
                 Ok(Step::Quiet)
             }
             CodeStmtKind::Async { body } => Ok(Step::Async { body, left }),
@@ -70,30 +80,30 @@ impl<'a> Level<'a> {
                 left,
                 body,
             })),
-            CodeStmtKind::Offer { value } => Ok(self.offer(value, stmt.line)),
+            CodeStmtKind::Offer { value } => Ok(self.offer(value, columns, stmt.line)),
             CodeStmtKind::Run { callee, args } => {
-                let step = self.call(&code.tasks, *callee, args, false, stmt.line, left)?;
+                let step = self.call(&code.tasks, *callee, args, false, columns, stmt.line, left)?;
                 Ok(step)
             }
             CodeStmtKind::Return { value } => {
-                self.give_back(value, stmt.line);
+                self.give_back(value, columns, stmt.line);
                 Ok(Step::Quiet)
             }
             CodeStmtKind::Print { parts } => {
-                let step = self.print(parts, stmt.line)?;
+                let step = self.print(parts, columns, stmt.line)?;
                 Ok(step)
             }
         }
     }
 
     /// Binds a new name to a value.
-    fn bind(&mut self, expr: &CodeExpr, line: u32) -> Result<(), AllocError>
+    fn bind(&mut self, expr: &CodeExpr, columns: &Data, line: u32) -> Result<(), AllocError>
         requires { self.old.flow ≡ flow.Fell }
         ensures { IfOk result (λ _. StatementDone self.old self.new step.Quiet
-            (with_value (code_value bare expr.now self.old.vars.items line)
+            (with_value (code_value (around_columns columns.now) expr.now self.old.vars.items line)
             (λ v. quiet (Fell (bind_if true self.old.vars.items v))))) }
     {
-        match value_of(expr, self.vars.as_slice(), line) {
+        match value_of(expr, columns, self.vars.as_slice(), line) {
             Ok(value) => self.vars.push(value)?,
             Err(code) => self.flow = Flow::Fault(code),
         }
@@ -101,13 +111,13 @@ impl<'a> Level<'a> {
     }
 
     /// Gives the name at a place a new value.
-    fn assign(&mut self, place: u32, expr: &CodeExpr, line: u32)
+    fn assign(&mut self, place: u32, expr: &CodeExpr, columns: &Data, line: u32)
         requires { self.old.flow ≡ flow.Fell }
         ensures { StatementDone self.old self.new step.Quiet
-            (with_value (code_value bare expr.now self.old.vars.items line)
+            (with_value (code_value (around_columns columns.now) expr.now self.old.vars.items line)
             (λ v. quiet (Fell (put_at self.old.vars.items place v)))) }
     {
-        match value_of(expr, self.vars.as_slice(), line) {
+        match value_of(expr, columns, self.vars.as_slice(), line) {
             Ok(value) => {
                 if (place as usize) < self.vars.len() {
                     self.vars[place as usize] = value;
@@ -118,25 +128,26 @@ impl<'a> Level<'a> {
     }
 
     /// A `return`: what stands behind it up to the end of the call is passed over.
-    fn give_back(&mut self, expr: &CodeExpr, line: u32)
+    fn give_back(&mut self, expr: &CodeExpr, columns: &Data, line: u32)
         requires { self.old.flow ≡ flow.Fell }
         ensures { StatementDone self.old self.new step.Quiet
-            (with_value (code_value bare expr.now self.old.vars.items line) (λ v. quiet (Back v))) }
+            (with_value (code_value (around_columns columns.now) expr.now self.old.vars.items line)
+            (λ v. quiet (Back v))) }
     {
-        self.flow = match value_of(expr, self.vars.as_slice(), line) {
+        self.flow = match value_of(expr, columns, self.vars.as_slice(), line) {
             Ok(value) => Flow::Back(value),
             Err(code) => Flow::Fault(code),
         };
     }
 
     /// An offer to the finish around it.
-    fn offer(&mut self, expr: &CodeExpr, line: u32) -> Step<'a>
+    fn offer(&mut self, expr: &CodeExpr, columns: &Data, line: u32) -> Step<'a>
         requires { self.old.flow ≡ flow.Fell }
         ensures { StatementDone self.old self.new result
-            (with_value (code_value bare expr.now self.old.vars.items line)
+            (with_value (code_value (around_columns columns.now) expr.now self.old.vars.items line)
             (λ v. before (Offer v ∷ []) (quiet (Fell self.old.vars.items)))) }
     {
-        match value_of(expr, self.vars.as_slice(), line) {
+        match value_of(expr, columns, self.vars.as_slice(), line) {
             Ok(value) => Step::Offer(value),
             Err(code) => {
                 self.flow = Flow::Fault(code);
@@ -146,15 +157,22 @@ impl<'a> Level<'a> {
     }
 
     /// A print: all its parts are evaluated before anything is written.
-    fn print(&mut self, parts: &CodeParts, line: u32) -> Result<Step<'a>, AllocError>
+    fn print(
+        &mut self,
+        parts: &CodeParts,
+        columns: &Data,
+        line: u32,
+    ) -> Result<Step<'a>, AllocError>
         requires { self.old.flow ≡ flow.Fell }
         ensures { IfOk result (λ step. StatementDone self.old self.new step
-            (with_line (all_texts (map (λ p. code_part_value bare p self.old.vars.items line) parts.now))
+            (with_line (all_texts (map (λ p.
+            code_part_value (around_columns columns.now) p self.old.vars.items line) parts.now))
             (λ text. before (Line text ∷ []) (quiet (Fell self.old.vars.items))))) }
     {
         match text_of(
             *self.vars.allocator(),
             parts.as_slice(),
+            columns,
             self.vars.as_slice(),
             line,
         )? {

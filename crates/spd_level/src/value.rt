@@ -4,49 +4,63 @@ ghost use Rattle.std.specs.Prelude.{◌≡◌, Ok, ℕ, IfOk, map};
 ghost use Rattle.spd_meaning.specs.Values.{apply_unary, apply_binary, decided, truth, all_values};
 ghost use Rattle.spd_code.specs.Coded.{code_value};
 ghost use Rattle.spd_code.specs.Places.{value_at};
-ghost use Rattle.spd_level.specs.Found.{bare, value_list};
+ghost use Rattle.spd_level.specs.Columns.{around_columns};
+ghost use Rattle.spd_level.specs.Found.{value_list};
 
+use crate::columns::{
+    byte_of, found_in_range, has_prefix, is_same, length_of, number_at, size_of, text_at,
+};
 use spd_code::CodeExpr;
+use spd_data::Data;
 use spd_syntax::{BinOp, UnOp};
 use std::alloc::{AllocError, Global};
 
-/// The value of an expression of a statement at this line, over the values of the visible names,
-/// or the code of its fault: `line * 8 + 1` for a division by zero.
+/// The value of an expression of a statement at this line, over columns and the values of the visible
+/// names, or the code of its fault: `line * 8 + 1` for a division by zero, `line * 8 + 2` for an index
+/// that is out of range.
 ///
-/// It answers as a program without columns does: `len` of none is 0, and an entry of none is out
-/// of range (`line * 8 + 2`) once its numbers have their values. It calls itself once for each
-/// operator that stands inside another. A place without a value reads 0, which no checked program
-/// does.
-pub fn value_of(expr: &CodeExpr, vars: &[i64], line: u32) -> Result<i64, u64>
-    ensures { result ≡ code_value bare expr.now vars.now line }
+/// It calls itself once for each operator that stands inside another. A place without a value reads 0,
+/// and a column that isn't there or is of the other kind has no entries to read, which no checked
+/// program does.
+pub fn value_of(expr: &CodeExpr, columns: &Data, vars: &[i64], line: u32) -> Result<i64, u64>
+    ensures { result ≡ code_value (around_columns columns.now) expr.now vars.now line }
 {
     match expr {
         CodeExpr::Number(value) => Ok(*value),
         CodeExpr::Var(place) => Ok(at_place(vars, *place)),
         CodeExpr::Unary(op, inner) => {
-            let a = value_of(inner.get(), vars, line)?;
+            let a = value_of(inner.get(), columns, vars, line)?;
             Ok(apply_one(*op, a))
         }
         CodeExpr::Binary(op, left, right) => {
-            let a = value_of(left.get(), vars, line)?;
+            let a = value_of(left.get(), columns, vars, line)?;
             if let Some(value) = decide(*op, a) {
                 return Ok(value);
             }
-            let b = value_of(right.get(), vars, line)?;
+            let b = value_of(right.get(), columns, vars, line)?;
             apply(*op, a, b, line)
         }
-        CodeExpr::Len(_) => Ok(0),
-        CodeExpr::Index(_, at)
-        | CodeExpr::Size(_, at)
-        | CodeExpr::Same(_, at, _)
-        | CodeExpr::Begins(_, at, _) => {
-            value_of(at.get(), vars, line)?;
-            Err(line as u64 * 8 + 2)
+        CodeExpr::Len(column) => Ok(length_of(columns, *column)),
+        CodeExpr::Index(column, at) => {
+            let at = value_of(at.get(), columns, vars, line)?;
+            found_in_range(number_at(columns, *column, at), line)
         }
-        CodeExpr::At(_, at, byte) => {
-            value_of(at.get(), vars, line)?;
-            value_of(byte.get(), vars, line)?;
-            Err(line as u64 * 8 + 2)
+        CodeExpr::Size(column, at) => {
+            let at = value_of(at.get(), columns, vars, line)?;
+            size_of(text_at(columns, *column, at), line)
+        }
+        CodeExpr::At(column, at, byte) => {
+            let at = value_of(at.get(), columns, vars, line)?;
+            let byte = value_of(byte.get(), columns, vars, line)?;
+            byte_of(text_at(columns, *column, at), byte, line)
+        }
+        CodeExpr::Same(column, at, literal) => {
+            let at = value_of(at.get(), columns, vars, line)?;
+            is_same(text_at(columns, *column, at), literal.as_slice(), line)
+        }
+        CodeExpr::Begins(column, at, literal) => {
+            let at = value_of(at.get(), columns, vars, line)?;
+            has_prefix(text_at(columns, *column, at), literal.as_slice(), line)
         }
     }
 }
@@ -55,15 +69,17 @@ pub fn value_of(expr: &CodeExpr, vars: &[i64], line: u32) -> Result<i64, u64>
 pub fn values_of(
     alloc: Global,
     args: &[CodeExpr],
+    columns: &Data,
     vars: &[i64],
     line: u32,
 ) -> Result<Result<Vec<i64>, u64>, AllocError>
     ensures { IfOk result (λ values.
-        value_list values ≡ all_values (map (λ e. code_value bare e vars.now line) args.now)) }
+        value_list values
+        ≡ all_values (map (λ e. code_value (around_columns columns.now) e vars.now line) args.now)) }
 {
     let mut found = Vec::new(alloc);
     for arg in args {
-        match value_of(arg, vars, line) {
+        match value_of(arg, columns, vars, line) {
             Ok(value) => found.push(value)?,
             Err(code) => return Ok(Err(code)),
         }
@@ -79,7 +95,7 @@ fn at_place(vars: &[i64], place: u32) -> i64
 }
 
 /// A test as a number: 1 where it holds, else 0.
-fn as_number(test: bool) -> i64
+pub(crate) fn as_number(test: bool) -> i64
     ensures { result ≡ truth test }
 {
     if test { 1 } else { 0 }

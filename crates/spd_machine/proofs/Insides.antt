@@ -1,9 +1,9 @@
 -- What a level gives goes through the finishes inside: the innermost collects it, and each passes on the rest.
-use Rattle.std.proofs.Common.{◌≡◌, ℕ, ◌+◌, List, [], ◌∷◌, ◌++◌, refl, sym, ◌∙◌, ap, ℤ, Bor}
+use Rattle.std.proofs.Common.{◌≡◌, ℕ, List, [], ◌∷◌, ◌++◌, refl, sym, ◌∙◌, ap, ℤ, Bor}
 use Rattle.spd_meaning.proofs.Collecting.{finish_before, collected_passed, Counts, quiet_counts}
 use Rattle.spd_meaning.proofs.Hearing.{passed_twice, heard_passed, work_passed}
 use Rattle.spd_words.specs.Total.{Total, settle, nothing, begun, total_of}
-use Rattle.spd_words.specs.Gift.{gift, no_fault, identity}
+use Rattle.spd_words.specs.Gift.{no_fault, identity}
 use Rattle.spd_meaning.specs.Acts.{Acts, Over, passed, work_of, heard}
 use Rattle.spd_meaning.specs.Eval.{Eval, quiet, before, collected, for_finish, end_codes, finish_left, finish_end, End}
 use Rattle.spd_code.specs.Coded.{Context, around_of, eval_block}

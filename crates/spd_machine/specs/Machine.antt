@@ -3,10 +3,9 @@ use Rattle.std.specs.Prelude.{◌≡◌, ℕ, ◌+◌, ◌*◌, ◌<◌, List, [
 use Rattle.spd_words.specs.Total.{total_of}
 use Rattle.spd_meaning.specs.Acts.{Acts, Offer, Code, Begin, Async, heard, work_of}
 use Rattle.spd_meaning.specs.Eval.{Eval, before, async_of, finish_of, finish_left}
-use Rattle.spd_code.specs.Coded.{Context, context_of, around_of, eval_block}
+use Rattle.spd_code.specs.Coded.{Context, around_of, eval_block}
 use Rattle.spd_code.specs.Places.{bind_if}
 use Rattle.spd_level.specs.Left.{level_left, level_now}
-use Rattle.spd_code.specs.declared.tree.CodeTree.{CodeTree}
 use Rattle.spd_level.specs.declared.frame.Flow.TheVariants as flow
 use Rattle.spd_machine.specs.declared.machine.Inside.{Inside}
 use Rattle.spd_machine.specs.declared.machine.Machine.{Machine}
@@ -85,8 +84,6 @@ module _ (context : Context) where
     pub stands : MetStands by new
     pub falls : MetPays by (work_of given) n (machine_frames new)
 
--- ---- the same at a code, as the calls say it
-
 -- By one turn or several, of which the last alone met something, a machine came from one state to another.
-abbrev pub MachineGoes : CodeTree → Machine → Machine → Met → Type 0
-MachineGoes code old new by = MachineTurn (context_of code) (machine_eval (context_of code) old) (machine_frames old) new by
+abbrev pub MachineGoes : Context → Machine → Machine → Met → Type 0
+MachineGoes context old new by = MachineTurn context (machine_eval context old) (machine_frames old) new by

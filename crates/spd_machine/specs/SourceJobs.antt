@@ -8,10 +8,12 @@ use Rattle.spd_meaning.specs.Blocks.{SourceBlock}
 use Rattle.spd_meaning.specs.Jobs.{block_result, call_result}
 use Rattle.spd_meaning.specs.Standing.{StandWell}
 use Rattle.spd_code.specs.Resolved.{spaces_of, code_of}
-use Rattle.spd_code.specs.Coded.{Context, item_at}
-use Rattle.spd_code.specs.Alike.{IsItem, IsCode, AreColumns}
+use Rattle.spd_code.specs.Coded.{item_at}
+use Rattle.spd_code.specs.Alike.{IsItem, IsCode}
+use Rattle.spd_level.specs.Columns.{Fits}
 use Rattle.spd_words.specs.declared.finish_kind.FinishKind.{FinishKind}
 use Rattle.spd_words.specs.declared.finish_kind.FinishKind.TheVariants as kind
+use Rattle.spd_data.specs.declared.column.Column.{Column}
 use Rattle.spd_syntax.specs.declared.tree.Item.{Item}
 use Rattle.spd_code.specs.declared.stmt.CodeBlock.{CodeBlock}
 use Rattle.spd_code.specs.declared.tree.CodeItem.{CodeItem}
@@ -19,10 +21,10 @@ use Rattle.spd_code.specs.declared.tree.CodeTree.{CodeTree}
 use Rattle.spd_machine.specs.declared.job.JobBody.{JobBody}
 use Rattle.spd_machine.specs.declared.job.JobBody.TheVariants as job
 
--- A code with its columns is that of a program, whose functions' statements stand where they may: so it is where the checks accept the program.
-pub record IsCheckedProgram (items : List Item) (column : Name → ColumnView) (context : Context) : Type 0 where
-  pub code : IsCode items context.code
-  pub columns : AreColumns items column context
+-- A code is that of a program, whose functions' statements stand where they may: so it is where the checks accept the program. Its columns fit it.
+pub record IsCheckedProgram (items : List Item) (code : CodeTree) (columns : List Column) : Type 0 where
+  pub is_code : IsCode items code
+  pub fits : Fits items columns
   pub stands : StandWell (callables_of items).functions
 
 -- a block of the program, or one of its functions

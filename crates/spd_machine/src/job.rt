@@ -1,8 +1,7 @@
 // Jobs: finishes that are given as pieces of work of their own.
 
 ghost use Rattle.std.specs.Prelude.{◌≡◌, ◌≤◌, IfOk, length};
-ghost use Rattle.spd_code.specs.declared.tree.CodeTree.{CodeTree};
-ghost use Rattle.spd_code.specs.Coded.{context_of};
+ghost use Rattle.spd_code.specs.Coded.{Context};
 ghost use Rattle.spd_meaning.specs.Eval.{for_finish};
 ghost use Rattle.spd_level.specs.Left.{level_eval};
 ghost use Rattle.spd_machine.specs.Elision.{job_eval};
@@ -41,8 +40,8 @@ pub struct Job<'a> {
 /// The body of a job, as a level that begins.
 pub fn level_of_job(body: JobBody<'_>) -> Result<Level<'_>, AllocError>
     ensures frames { IfOk result (λ level. length level.frames.items ≤ 2) }
-    ensures left { (code : CodeTree) → IfOk result (λ level.
-        for_finish (level_eval (context_of code) level) ≡ for_finish (job_eval (context_of code) body.entry)) }
+    ensures left { (context : Context) → IfOk result (λ level.
+        for_finish (level_eval context level) ≡ for_finish (job_eval context body.entry)) }
 {
     match body {
         JobBody::Block { block, left, vars } => {

@@ -3,11 +3,11 @@
 ghost use Rattle.std.specs.Prelude.{◌≡◌, ◌≢◌, ℕ, ◌+◌, ◌∷◌, [], List, ℤ, length, IfOk};
 ghost use Rattle.std.specs.Borrow.{Bor};
 ghost use Rattle.spd_words.specs.Total.{settle, total_of, nothing};
-ghost use Rattle.spd_code.specs.declared.tree.CodeTree.{CodeTree};
 ghost use Rattle.spd_code.specs.declared.stmt.CodeBlock.{CodeBlock};
 ghost use Rattle.spd_meaning.specs.Acts.{Begin, Finish};
 ghost use Rattle.spd_meaning.specs.Eval.{quiet, before, finish_of, finish_left, finish_end, collected, end_codes};
-ghost use Rattle.spd_code.specs.Coded.{context_of, around_of, eval_block};
+ghost use Rattle.spd_code.specs.Coded.{Context, around_of, eval_block};
+ghost use Rattle.spd_level.specs.Columns.{context_of};
 ghost use Rattle.spd_code.specs.Places.{bind_if};
 ghost use Rattle.spd_level.specs.Left.{level_now, flow_end};
 ghost use Rattle.spd_machine.specs.Machine.{machine_left, machine_eval, machine_frames, MachineGoes};
@@ -16,6 +16,7 @@ ghost use Rattle.spd_level.specs.declared.frame.Frame.TheVariants as frame;
 ghost use Rattle.spd_machine.specs.declared.machine.Met.TheVariants as meets;
 
 use spd_code::{CodeBlock, CodeTree};
+use spd_data::Data;
 use spd_level::{FinishAt, Flow, Level, Step, copy_of};
 use spd_words::{FinishKind, Tally};
 use std::alloc::AllocError;
@@ -59,10 +60,10 @@ pub enum Met<'a> {
 
 impl<'a> Machine<'a> {
     /// One turn. What a finish inside hears isn't met outside.
-    pub fn turn(&mut self, code: &'a CodeTree) -> Result<Met<'a>, AllocError>
-        ensures { IfOk result (λ met. MachineGoes code.now self.old self.new met) }
+    pub fn turn(&mut self, code: &'a CodeTree, columns: &Data) -> Result<Met<'a>, AllocError>
+        ensures { IfOk result (λ met. MachineGoes (context_of code.now columns.now) self.old self.new met) }
     {
-        match self.level.turn(code)? {
+        match self.level.turn(code, columns)? {
             Step::Quiet => Ok(Met::Quiet),
             Step::Line(_) => Ok(Met::Quiet),
             Step::Offer(x) => match self.inside.last_mut() {
@@ -103,12 +104,12 @@ impl<'a> Machine<'a> {
     }
 
     /// Goes on until something is met.
-    pub fn run(&mut self, code: &'a CodeTree) -> Result<Met<'a>, AllocError>
-        ensures goes { IfOk result (λ met. MachineGoes code.now self.old self.new met) }
+    pub fn run(&mut self, code: &'a CodeTree, columns: &Data) -> Result<Met<'a>, AllocError>
+        ensures goes { IfOk result (λ met. MachineGoes (context_of code.now columns.now) self.old self.new met) }
         ensures met { IfOk result (λ met. met ≢ meets.Quiet) }
     {
         loop {
-            let met = self.turn(code)?;
+            let met = self.turn(code, columns)?;
             match met {
                 Met::Quiet => {}
                 met => return Ok(met),
@@ -141,11 +142,11 @@ impl<'a> Machine<'a> {
     pub fn open(&mut self, finish: FinishAt<'a>) -> Result<(), AllocError>
         requires { self.old.level.flow ≡ flow.Fell }
         ensures frames { IfOk result (λ _. machine_frames self.new ≡ machine_frames self.old + 2) }
-        ensures left { (code : CodeTree) → IfOk result (λ _. machine_left (context_of code) self.old
+        ensures left { (context : Context) → IfOk result (λ _. machine_left context self.old
             (finish_of finish.entry.kind finish.entry.line (bind_if finish.entry.binds self.old.level.vars.items)
-            (eval_block (around_of (context_of code) finish.entry.left) finish.entry.body.now
+            (eval_block (around_of context finish.entry.left) finish.entry.body.now
             self.old.level.vars.items))
-            ≡ before (Begin Finish ∷ []) (machine_eval (context_of code) self.new)) }
+            ≡ before (Begin Finish ∷ []) (machine_eval context self.new)) }
     {
         let FinishAt {
             kind,
@@ -171,13 +172,13 @@ impl<'a> Machine<'a> {
     ) -> Result<(), AllocError>
         ensures frames { IfOk result (λ _.
             machine_frames self.new ≡ machine_frames self.old + (length level.entry.frames.items + 1)) }
-        ensures left { (code : CodeTree) (body : Bor CodeBlock) (left : ℕ) → IfOk result (λ _.
+        ensures left { (context : Context) (body : Bor CodeBlock) (left : ℕ) → IfOk result (λ _.
             level.entry.flow ≡ flow.Fell → level.entry.vars.items ≡ self.old.level.vars.items →
             level.entry.frames.items ≡ frame.Block body 0 0 left ∷ [] →
-            machine_left (context_of code) self.old
+            machine_left context self.old
             (finish_left kind (nothing kind) line (bind_if binds self.old.level.vars.items)
-            (eval_block (around_of (context_of code) left) body.now self.old.level.vars.items))
-            ≡ machine_eval (context_of code) self.new) }
+            (eval_block (around_of context left) body.now self.old.level.vars.items))
+            ≡ machine_eval context self.new) }
     {
         let outer = mem::replace(&mut self.level, level);
         self.inside.push(Inside {

@@ -1,5 +1,8 @@
--- `run_main`: the lines that main gives are put one after the other (relation `Walked`, specs/Walk; lemmas Walking for
---   turns, Putting for the bytes that a sink gets), and what is left of main is an evaluation again: a finish and a call
---   that it met end as the total of their job says.
+-- What is left of main is an evaluation again, cut at its jobs: what was left is the lines that a turn puts, then a job or the end, then what is left with the
+--   job's result (`SpineTurned`, specs/Walk).
+-- Putting: the bytes that a sink gets, one piece after the other. Walking: one turn of main's level, which puts a line, meets a job or ends (`finish_met`,
+--   `call_met`, `over_met`).
+-- Spines: the same as turns of a spine, for `Spine::next` (`turns_behind`), and the whole run, for `run_main` (`job_done`, `all_put`, `main_ends`).
 pub mod Putting
 pub mod Walking
+pub mod Spines

@@ -1,9 +1,10 @@
 -- Bytes that a sink gets one piece after another.
-use Rattle.std.proofs.Common.{◌≡◌, ◌≢◌, ℕ, Bool, List, [], ◌++◌, take, drop, Option, Some, None, IfSome, Result, Ok, Err, refl, sym, ap, ◌∙◌, append_assoc, arith}
+use Rattle.std.proofs.Common.{◌≡◌, ◌≢◌, ℕ, List, [], ◌++◌, take, drop, Option, Some, None, IfSome, Ok, Err, refl, sym, ap, ◌∙◌, append_assoc, arith}
 use Rattle.std.proofs.lemmas.List.{append-nil, take-append-drop}
 use Rattle.spd_io.specs.Sink.{SinkState, Gets, GetsFront, Failed, SinkKeepsFaults}
-use Rattle.spd_spine.specs.declared.walk.RunError.{RunError}
-use Rattle.spd_spine.specs.declared.walk.RunError.TheVariants.{NoMemory, WriteFailed}
+use Rattle.spd_spine.specs.declared.turn.RunError.{RunError}
+use Rattle.spd_machine.specs.declared.job.Job.{Job}
+use Rattle.spd_spine.specs.declared.turn.SpineTurn.TheVariants as turn
 
 pub gets_then : (a b c : SinkState) (x y : List ℕ) → Gets a b x → Gets b c y → Gets a c (x ++ y)
 gets_then a b c x y p q = by_told a.got p
@@ -37,5 +38,8 @@ pub failed_later : (a b c : SinkState) → SinkKeepsFaults a b → Failed b c �
 failed_later a b c le h = omega (arith, le, h)
 
 -- ends that aren't those of a sink that failed
-pub walked_well : (over : Bool) (e : RunError) → Ok over ≢ Err e
-walked_well over e h = cc
+pub goes_well : {A : Type 0} (x : A) (e : RunError) → Ok x ≢ Err e
+goes_well x e h = cc
+
+pub region_goes_well : (job : Job) → turn.Region job ≢ turn.Stopped
+region_goes_well job h = cc

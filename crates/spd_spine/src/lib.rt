@@ -2,6 +2,11 @@
 //! away as a job, one after the other.
 #![tactic(auto)]
 
+mod run;
+mod spine;
+mod turn;
 mod walk;
 
-pub use walk::{End, RunError, run_main};
+pub use run::run_main;
+pub use spine::{Spine, Standing};
+pub use turn::{End, RunError, SpineTurn};

@@ -11,7 +11,7 @@ use Rattle.spd_code.specs.declared.stmt.CodeBlock.{CodeBlock}
 use Rattle.spd_meaning.specs.Acts.{Acts, Code, Begin, Async, Finish, Over, heard, passed, passed_in, work_of}
 use Rattle.spd_meaning.specs.Eval.{End, Fell, Back, Fault, Eval, quiet, before, cut, for_finish, end_codes, async_of}
 use Rattle.spd_meaning.specs.Eval.{finish_of, finish_end, collected, job_total}
-use Rattle.spd_code.specs.Coded.{Context, context_of, around_of, eval_block}
+use Rattle.spd_code.specs.Coded.{Context, around_of, eval_block}
 use Rattle.spd_code.specs.Places.{bind_if}
 use Rattle.spd_level.specs.declared.frame.Frame.{Frame}
 use Rattle.spd_task.specs.declared.task.State.{State}
@@ -105,12 +105,12 @@ runs_block : (t b : Task) (f : FinishAt) → t.state ≡ state.Waits f → b.mac
     b.machine.level.frames.items ≡ frame.Block f.body 0 0 f.left ∷ [] → RunsBlock t.state f.kind t.machine b
 runs_block t b f s vs fs = rw s (refl, vs, fs)
 
-module _ (o n : Task) (a : Eval ℤ) (w : ℕ) (code : n.code ≡ o.code) (kind : n.kind ≡ o.kind) where
+module _ (o n : Task) (a : Eval ℤ) (w : ℕ) (context : context_in n ≡ context_in o) (kind : n.kind ≡ o.kind) where
   pub gave_offer : (x : ℤ) → n.state ≡ state.Ready → MachineTurn (context_in n) a w n.machine (met.Offer x) → TaskGave a w o n (event.Offer x)
   gave_offer x s h =
       let e : a ≡ before h.given (left_of n) = h.is ∙ ap (before h.given) (sym (ready_left n s)) in
       record {
-        code = code;
+        context = context;
         kind = kind;
         next = (h.given, e, h.said);
         given = h.given;
@@ -125,7 +125,7 @@ module _ (o n : Task) (a : Eval ℤ) (w : ℕ) (code : n.code ≡ o.code) (kind 
       let e : a ≡ before h.given (left_of n) = h.is ∙ ap (before h.given) (sym (ready_left n s)) in
       let q = ap for_finish e ∙ finish_given h.given (left_of n) in
       record {
-        code = code;
+        context = context;
         kind = kind;
         next = (h.given, q, h.said);
         given = h.given;
@@ -148,7 +148,7 @@ module _ (o n : Task) (a : Eval ℤ) (w : ℕ) (code : n.code ≡ o.code) (kind 
       ap (λ (x : Eval ℤ). 4 * work_of x.given + length (end_codes x.end)) lb in
       let wb : machine_frames b.machine ≡ 0 = weighs b.machine 0 (ap length fs) r.inside in
       record {
-        code = code;
+        context = context;
         kind = kind;
         next = inr (h.stands, z, (h.given, e, h.said));
         given = h.given;
@@ -168,7 +168,7 @@ module _ (o n : Task) (a : Eval ℤ) (w : ℕ) (code : n.code ≡ o.code) (kind 
       let vars = n.machine.level.vars.items in
       let e = eval_block (around_of x left) body.now vars in
       let lb : left_of b ≡ cut 0 e = block_left b body left vars r.state r.inside r.falls_through vs fs
-      ∙ ap (λ c. cut 0 (eval_block (around_of (context_of c) left) body.now vars)) r.code in
+      ∙ ap (λ c. cut 0 (eval_block (around_of c left) body.now vars)) r.context in
       let f : n.machine.level.flow ≡ flow.Fell = h.stands.0 in
       let is_async : a ≡ before h.given (machine_left x n.machine (async_of vars (left_of b))) = h.is
       ∙ ap (λ (y : Eval ℤ). before h.given (machine_left x n.machine y)) (sym (async_cut vars 0 e) ∙ ap (async_of vars) (sym lb)) in
@@ -188,7 +188,7 @@ module _ (o n : Task) (a : Eval ℤ) (w : ℕ) (code : n.code ≡ o.code) (kind 
       let wb : machine_frames b.machine ≡ 1 = weighs b.machine 1 (ap length fs) r.inside in
       let oe = one_end (left_of b).end in
       record {
-        code = code;
+        context = context;
         kind = kind;
         next = inl (h.stands.1, (h.given, is_async, h.said));
         given = h.given ++ q;
@@ -211,7 +211,7 @@ module _ (o n : Task) (a : Eval ℤ) (w : ℕ) (code : n.code ≡ o.code) (kind 
       let e = eval_block (around_of x f.left) f.body.now vars in
       let bh = bind_if f.binds vars in
       let lb : left_of b ≡ cut 0 e = block_left b f.body f.left vars r.state r.inside r.falls_through vs fs
-      ∙ ap (λ c. cut 0 (eval_block (around_of (context_of c) f.left) f.body.now vars)) r.code in
+      ∙ ap (λ c. cut 0 (eval_block (around_of c f.left) f.body.now vars)) r.context in
       let is_finish : a ≡ before h.given (machine_left x m (finish_of f.kind f.line bh (left_of b))) =
       h.is ∙ ap (λ (y : Eval ℤ). before h.given (machine_left x m y)) (sym (finish_cut f.kind f.line bh 0 e) ∙ ap (finish_of f.kind f.line bh) (sym lb)) in
       let q = passed (Begin Finish ∷ ((left_of b).given ++ Over ∷ [])) in
@@ -231,7 +231,7 @@ module _ (o n : Task) (a : Eval ℤ) (w : ℕ) (code : n.code ≡ o.code) (kind 
       let wb : machine_frames b.machine ≡ 1 = weighs b.machine 1 (ap length fs) r.inside in
       let oe = one_end (left_of b).end in
       record {
-        code = code;
+        context = context;
         kind = kind;
         next = (f, s, refl, (h.given, is_finish, h.said));
         given = h.given ++ q;
@@ -254,7 +254,7 @@ module _ (o n : Task) (a : Eval ℤ) (w : ℕ) (code : n.code ≡ o.code) (kind 
       ∙ nil_behind (h.given ++ []) ∙ nil_behind h.given in
       let ln : for_finish (left_of n) ≡ [] = over_left n s f (fs ∙ st.0) (is ∙ st.1) in
       record {
-        code = code;
+        context = context;
         kind = kind;
         next = ap heard e ∙ h.said;
         given = h.given;
@@ -284,7 +284,7 @@ module _ (o n : Task) (a : Eval ℤ) (w : ℕ) (code : n.code ≡ o.code) (kind 
       let en : length (end_codes (left_of n).end) ≡ 0 = ap (λ (y : Eval ℤ). length (end_codes y.end)) ln in
       let ea : length (end_codes a.end) ≡ 1 = ap (λ (y : Eval ℤ). length (end_codes y.end)) e in
       record {
-        code = code;
+        context = context;
         kind = kind;
         next = (h.given ++ Code c ∷ [], all, hs);
         given = h.given ++ Code c ∷ [];

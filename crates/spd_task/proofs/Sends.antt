@@ -4,6 +4,7 @@ use denote.Param.SendFields.{declared_send, declared_sync}
 use Rattle.std.proofs.Crossing.{crosses}
 use Rattle.spd_words.proofs.finish_kind.FinishKind.TheSendSync as kinds
 use Rattle.spd_words.proofs.tally.Tally.TheSendSync as tally
+use Rattle.spd_data.proofs.column.Column.TheSendSync as columns
 use Rattle.spd_code.specs.contracts.stmt.CodeBlock as block
 use Rattle.spd_code.specs.contracts.tree.CodeItem as item
 use Rattle.spd_code.specs.contracts.tree.CodeTree as code
@@ -41,4 +42,13 @@ state_send : (κ : _) → IsSend (state.the_row κ)
 state_send κ = search (block_sync, sendable) depth 60
 
 pub task_send : (κ : _) → IsSend (task.the_row κ)
-task_send κ = declared_send (task.the_type κ) (search (code_sync, sendable), (kinds.the_send, (machine_send κ, (state_send κ, tt))))
+task_send κ = declared_send (task.the_type κ) (
+  search (code_sync, sendable),
+  (
+    search (columns.the_sync, crosses, sendable) depth 30,
+    (
+      kinds.the_send,
+      (machine_send κ, (state_send κ, tt)),
+    ),
+  ),
+)

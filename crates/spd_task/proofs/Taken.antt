@@ -1,6 +1,6 @@
 -- Parts that are taken inside.
 use Rattle.std.proofs.Common.{◌≡◌, ◌≢◌, ℕ, ◌+◌, ◌<◌, List, [], ◌∷◌, ◌++◌, length, refl, sym, ◌∙◌, ap, subst, arith}
-use Rattle.std.proofs.Common.{append_assoc, ℤ, Bor, inl, inr, Vec, Global, length-append}
+use Rattle.std.proofs.Common.{append_assoc, ℤ, inl, inr, Vec, Global, length-append}
 use Rattle.std.specs.Prelude.{min}
 use Rattle.std.proofs.lemmas.Grind.{flat_map-append}
 use Rattle.spd_words.specs.Total.{nothing}
@@ -11,7 +11,7 @@ use Rattle.spd_words.specs.declared.event.Part.TheVariants as part
 use Rattle.spd_meaning.specs.Acts.{Acts, Over, heard, passed, passed_in, moves_of, work_of}
 use Rattle.spd_meaning.specs.Eval.{Fell, Eval, quiet, before, cut, for_finish, end_codes, async_left, finish_left, finish_end, job_total}
 use Rattle.spd_meaning.specs.Eval.{promised_by, promise_left}
-use Rattle.spd_code.specs.Coded.{Context, context_of, around_of, eval_block}
+use Rattle.spd_code.specs.Coded.{Context, around_of, eval_block}
 use Rattle.spd_code.specs.Places.{bind_if}
 use Rattle.spd_level.specs.Left.{frame_left, frames_left, level_left, level_eval, level_now}
 use Rattle.spd_machine.specs.Machine.{insides_frames, machine_frames, insides_left, machine_left, machine_eval}
@@ -20,7 +20,6 @@ use Rattle.spd_level.specs.declared.frame.Frame.{Frame}
 use Rattle.spd_level.specs.declared.frame.Frame.TheVariants as frame
 use Rattle.spd_level.specs.declared.frame.Flow.TheVariants as flow
 use Rattle.spd_machine.specs.declared.machine.Inside.{Inside}
-use Rattle.spd_code.specs.declared.tree.CodeTree.{CodeTree}
 use Rattle.spd_level.proofs.Through.{frames_before, frames-snoc}
 use Rattle.spd_meaning.proofs.Sequence.{nil_behind}
 use Rattle.spd_meaning.proofs.Hearing.{heard_both, work_both, work_passed, moves_both}
@@ -40,7 +39,8 @@ frames-append x [] gs a = refl
 frames-append x (f ∷ fs) gs a = ap (frame_left x f) (frames-append x fs gs a)
 
 -- an async whose frames stand upon those of the task
-async_stands : (o n b : Task) (saved : Vec ℤ Global) → n.code ≡ o.code → b.code.now ≡ o.code.now → b.machine.inside.items ≡ [] → b.state ≡ state.Ready →
+async_stands : (o n b : Task) (saved : Vec ℤ Global) → context_in n ≡ context_in o → context_in b ≡ context_in o → b.machine.inside.items ≡ [] →
+    b.state ≡ state.Ready →
     o.state ≡ state.Ready → n.state ≡ state.Ready →
     o.machine.inside.items ≡ [] → o.machine.level.flow ≡ flow.Fell → n.machine.inside.items ≡ o.machine.inside.items →
     saved.items ≡ o.machine.level.vars.items →
@@ -53,10 +53,10 @@ async_stands o n b saved cn cb bi bs os ns oi of ni sv nf nv fs =
     let q = for_finish lb ++ Over ∷ [] in
     let vars = o.machine.level.vars.items in
     let bl : left_of b ≡ lb = ready_left b bs ∙ ap (λ (is : List Inside). insides_left (context_in b) is (level_eval (context_in b) b.machine.level)) bi
-    ∙ ap (λ c. level_eval (context_of c) b.machine.level) cb in
+    ∙ ap (λ c. level_eval c b.machine.level) cb in
     let ol : left_of o ≡ level_left x o.machine.level (quiet (Fell vars)) = ready_left o os
     ∙ ap (λ (is : List Inside). insides_left x is (level_eval x o.machine.level)) oi ∙ rw of refl in
-    let nl : left_of n ≡ level_eval x n.machine.level = ready_left n ns ∙ ap (λ (c : Bor CodeTree). machine_eval (context_of c.now) n.machine) cn
+    let nl : left_of n ≡ level_eval x n.machine.level = ready_left n ns ∙ ap (λ c. machine_eval c n.machine) cn
     ∙ ap (λ (is : List Inside). insides_left x is (level_eval x n.machine.level)) (ni ∙ oi) in
     let al : async_left vars lb ≡ before q (quiet (Fell vars)) =
     ap (λ (g : Acts). record { end = Fell vars; given = g }) (sym (append_assoc lb.given (end_codes lb.end) (Over ∷ [])) ∙ sym (nil_behind q)) in
@@ -88,7 +88,7 @@ work_async o n b e =
     ∙ ap (λ (v : ℕ). v + work_of (left_of o).given) (work_over (for_finish (left_of b)) ∙ work_both (left_of b).given (end_codes (left_of b).end) ∙
     (let z = no_work (left_of b).end in omega arith))
 
-pub async_taken : (o n b : Task) (saved : Vec ℤ Global) → fits_task o (part.Async b) → 0 < length b.machine.level.frames.items → n.code ≡ o.code →
+pub async_taken : (o n b : Task) (saved : Vec ℤ Global) → fits_task o (part.Async b) → 0 < length b.machine.level.frames.items → context_in n ≡ context_in o →
     n.kind ≡ o.kind → n.state ≡ o.state →
     n.machine.inside.items ≡ o.machine.inside.items → saved.items ≡ o.machine.level.vars.items →
     n.machine.level.flow ≡ b.machine.level.flow → n.machine.level.vars.items ≡ b.machine.level.vars.items →
@@ -97,7 +97,7 @@ pub async_taken : (o n b : Task) (saved : Vec ℤ Global) → fits_task o (part.
 async_taken o n b saved (r, k, s, inr z) p cn kn sn ni sv nf nv fs = absurd (let y : length b.machine.level.frames.items ≡ 0 = ap length z in omega arith)
 async_taken o n b saved (r, k, s, inl (oi, of)) p cn kn sn ni sv nf nv fs =
     let ns : n.state ≡ state.Ready = sn ∙ s in
-    let e = async_stands o n b saved cn r.code r.inside r.state s ns oi of ni sv nf nv fs in
+    let e = async_stands o n b saved cn r.context r.inside r.state s ns oi of ni sv nf nv fs in
     let q = for_finish (left_of b) ++ Over ∷ [] in
     let g : for_finish (left_of n) ≡ q ++ for_finish (left_of o) = ap for_finish e ∙ finish_given q (left_of o) in
     let h : heard (for_finish (left_of n)) ≡ heard (for_finish (left_of b) ++ for_finish (left_of o)) =
@@ -153,7 +153,8 @@ nothing_taken o b (r, k, s, z) e =
 
 -- ---- finishes
 
-pub finish_taken : (o n b : Task) (f : FinishAt) → fits_task o (part.Finish f.kind b) → o.state ≡ state.Waits f → n.code ≡ o.code → n.kind ≡ o.kind →
+pub finish_taken : (o n b : Task) (f : FinishAt) → fits_task o (part.Finish f.kind b) → o.state ≡ state.Waits f → context_in n ≡ context_in o →
+    n.kind ≡ o.kind →
     n.state ≡ state.Ready →
     machine_frames n.machine ≡ machine_frames o.machine + 2 →
     machine_left (context_in o) o.machine (finish_left f.kind (nothing f.kind) f.line (bind_if f.binds o.machine.level.vars.items)
@@ -171,13 +172,13 @@ finish_taken o n b f (r, k, rb) s cn kn ns wn e =
     ap (λ (g : Acts). record { end = finish_end f.line bh (job_total f.kind a); given = g })
     (sym (flat_map-append passed_in a.given (Over ∷ [])) ∙ sym (nil_behind (passed q))) in
     let nl : left_of n ≡ before (passed q) (left_of o) =
-    ready_left n ns ∙ ap (λ (c : Bor CodeTree). machine_eval (context_of c.now) n.machine) cn ∙ sym e ∙ ap (machine_left x o.machine) gives
+    ready_left n ns ∙ ap (λ c. machine_eval c n.machine) cn ∙ sym e ∙ ap (machine_left x o.machine) gives
     ∙ machine_passed x o.machine q (quiet (finish_end f.line bh (job_total f.kind a))) ∙ ap (before (passed q)) (sym ol) in
     let g : for_finish (left_of n) ≡ passed q ++ for_finish (left_of o) = ap for_finish nl ∙ finish_given (passed q) (left_of o) in
     let lb : left_of b ≡ cut 0 (eval_block (around_of (context_in b) f.left) f.body.now o.machine.level.vars.items) =
     block_left b f.body f.left o.machine.level.vars.items r.state r.inside r.falls_through blk.1 blk.2 in
     let lg : (left_of b).given ≡ a.given = ap (λ (y : Eval ℤ). y.given) lb
-    ∙ ap (λ c. (eval_block (around_of (context_of c) f.left) f.body.now o.machine.level.vars.items).given) r.code in
+    ∙ ap (λ c. (eval_block (around_of c f.left) f.body.now o.machine.level.vars.items).given) r.context in
     let m : moves_of q ≡ (promise_left b.kind (left_of b)).moves = moves_over a.given ∙ ap moves_of (sym lg) ∙ sym (block_moves (left_of b)) in
     let pr : promise_left n.kind (left_of n) ≡ with_part o.kind (part.Finish f.kind (task_view b)) (promise_left o.kind (left_of o)) =
     ap (λ (kd : FinishKind). promise_left kd (left_of n)) kn ∙ ap (promised_by o.kind) g ∙ promise_passed o.kind q (for_finish (left_of o))

@@ -11,7 +11,7 @@ use Rattle.spd_meaning.specs.Acts.{Acts, Piece, Offer, Code, Line, Begin, Async,
 use Rattle.spd_meaning.specs.Acts.{heard, mark_in, passed, offers_of, codes_of, moves_of}
 use Rattle.spd_words.specs.Gift.{least}
 use Rattle.spd_meaning.specs.Eval.{End, Fell, Back, Fault, Eval, for_finish, end_codes, promised_by, promise_left}
-use Rattle.spd_code.specs.Coded.{Context, context_of, around_of, eval_block}
+use Rattle.spd_code.specs.Coded.{Context, around_of, eval_block}
 use Rattle.spd_machine.specs.Machine.{machine_frames}
 use Rattle.spd_level.specs.declared.step.FinishAt.{FinishAt}
 use Rattle.spd_level.specs.declared.frame.Frame.TheVariants as frame
@@ -65,7 +65,7 @@ finish_promise t b f r k vs fs =
     ap (λ (x : Eval ℤ). promise_left b.kind x) (block_left b f.body f.left vars r.state r.inside r.falls_through vs fs)
     ∙ ap (λ (cs : Acts). promised_by b.kind (e.given ++ cs)) (codes_cut 0 e.end)
     ∙ ap (λ (kd : FinishKind). promise_left kd e) k
-    ∙ ap (λ c. promise_left f.kind (eval_block (around_of (context_of c) f.left) f.body.now vars)) r.code
+    ∙ ap (λ c. promise_left f.kind (eval_block (around_of c f.left) f.body.now vars)) r.context
 
 -- ---- events
 

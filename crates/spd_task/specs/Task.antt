@@ -8,7 +8,8 @@ use Rattle.spd_words.specs.declared.event.Part.{Part}
 use Rattle.spd_words.specs.declared.event.Part.TheVariants as part
 use Rattle.spd_meaning.specs.Acts.{work_of}
 use Rattle.spd_meaning.specs.Eval.{Eval, quiet, end_codes, finish_end, job_total, promise_left}
-use Rattle.spd_code.specs.Coded.{Context, context_of, around_of, eval_block}
+use Rattle.spd_code.specs.Coded.{Context, around_of, eval_block}
+use Rattle.spd_level.specs.Columns.{context_of}
 use Rattle.spd_code.specs.Places.{bind_if}
 use Rattle.spd_level.specs.declared.step.FinishAt.{FinishAt}
 use Rattle.spd_level.specs.declared.frame.Flow.TheVariants as flow
@@ -62,9 +63,9 @@ stage_by state.Ended = Ended
 abbrev pub size_left : Eval ℤ → Machine → ℕ
 size_left a machine = 4 * work_of a.given + machine_frames machine + length (end_codes a.end)
 
--- the code that a task runs over
+-- the code and the columns that a task runs over
 abbrev pub context_in : Task → Context
-context_in task = context_of task.code.now
+context_in task = context_of task.code.now task.columns.now
 
 abbrev pub left_of : Task → Eval ℤ
 left_of task = left_by (context_in task) task.state task.machine
@@ -87,9 +88,9 @@ resumed_task task gift fault = resumed_by (context_in task) task.kind task.state
 
 -- ---- parts that fit
 
--- a task over the same code that has begun no finish inside
+-- a task over the same code and columns that has begun no finish inside
 pub record IsFreshTask (task part : Task) : Type 0 where
-  pub code : part.code.now ≡ task.code.now
+  pub context : context_in part ≡ context_in task
   pub state : part.state ≡ state.Ready
   pub inside : part.machine.inside.items ≡ []
   pub falls_through : part.machine.level.flow ≡ flow.Fell

@@ -67,9 +67,9 @@ StandsAfter new (event.Finish kind b) = fits_task new (part.Finish kind b)
 StandsAfter new event.Over = new.state ≡ state.Ended
 StandsAfter new event.NoMemory = new.state ≡ state.Ended
 
--- A task over this code and of this kind, of which this was left and whose machine had so many frames, gave an event.
+-- A task over this code, these columns and of this kind, of which this was left and whose machine had so many frames, gave an event.
 pub record TaskGave (a : Eval ℤ) (n : ℕ) (old new : Task) (event : Event Task) : Type 0 where
-  pub code : new.code ≡ old.code
+  pub context : context_in new ≡ context_in old
   pub kind : new.kind ≡ old.kind
   pub next : IsNext a new event
   pub given : Acts
@@ -81,7 +81,7 @@ pub record TaskGave (a : Eval ℤ) (n : ℕ) (old new : Task) (event : Event Tas
 
 -- A task whose machine is over gave an event, whatever was left of it when its machine began.
 abbrev pub EndGives : Task → Task → Event Task → Type 0
-EndGives old new event = (o : Task) (a : Eval ℤ) (n : ℕ) → old.code ≡ o.code → old.kind ≡ o.kind
+EndGives old new event = (o : Task) (a : Eval ℤ) (n : ℕ) → context_in old ≡ context_in o → old.kind ≡ o.kind
     → MachineTurn (context_in old) a n old.machine meets.Over → TaskGave a n o new event
 
 -- The task became the new one by taking this part inside.

@@ -3,13 +3,14 @@
 ghost use Rattle.std.specs.Prelude.{◌≡◌, IfOk};
 ghost use Rattle.spd_words.specs.Total.{ended, settle};
 ghost use Rattle.spd_meaning.specs.Eval.{job_total};
-ghost use Rattle.spd_code.specs.Coded.{context_of};
+ghost use Rattle.spd_level.specs.Columns.{context_of};
 ghost use Rattle.spd_machine.specs.Elision.{job_eval};
 ghost use Rattle.spd_region.specs.Dag.{MayRun, promised_total};
 ghost use Rattle.spd_task.specs.Task.{task_view};
 
 use crate::task::Task;
 use spd_code::CodeTree;
+use spd_data::Data;
 use spd_machine::{Job, Regions};
 use spd_region::run_within;
 use spd_words::{FinishKind, Given};
@@ -25,20 +26,26 @@ impl Regions for PlainRegions {
         &mut self,
         alloc: Global,
         code: &'a CodeTree,
+        columns: &'a Data,
         job: Job<'a>,
     ) -> Result<Given, AllocError> {
-        let given = run_job(alloc, code, job)?;
+        let given = run_job(alloc, code, columns, job)?;
         Ok(given)
     }
 }
 
-/// What a job gives over a code, by a dag whose first vertex runs its task.
-fn run_job<'a>(alloc: Global, code: &'a CodeTree, job: Job<'a>) -> Result<Given, AllocError>
+/// What a job gives over a code and columns, by a dag whose first vertex runs its task.
+fn run_job<'a>(
+    alloc: Global,
+    code: &'a CodeTree,
+    columns: &'a Data,
+    job: Job<'a>,
+) -> Result<Given, AllocError>
     ensures { IfOk result (λ given.
-        ended given ≡ job_total job.entry.kind (job_eval (context_of code.now) job.entry.body)) }
+        ended given ≡ job_total job.entry.kind (job_eval (context_of code.now columns.now) job.entry.body)) }
 {
     let kind = job.kind;
-    let task = Task::of_job(alloc, code, job)?;
+    let task = Task::of_job(alloc, code, columns, job)?;
     let given = run_task(alloc, kind, task)?;
     Ok(given)
 }

@@ -4,7 +4,7 @@ ghost use Rattle.std.specs.Prelude.{◌≡◌, [], ◌∷◌, IfOk, None};
 ghost use Rattle.spd_words.specs.Meaning.{Going, IsTame};
 ghost use Rattle.spd_words.specs.BodyCalls.{IsReady};
 ghost use Rattle.spd_meaning.specs.Eval.{for_finish, promise_left};
-ghost use Rattle.spd_code.specs.Coded.{context_of};
+ghost use Rattle.spd_level.specs.Columns.{context_of};
 ghost use Rattle.spd_machine.specs.Machine.{machine_eval, machine_frames};
 ghost use Rattle.spd_machine.specs.Elision.{job_eval};
 ghost use Rattle.spd_level.specs.declared.frame.Frame.TheVariants as frame;
@@ -13,6 +13,7 @@ ghost use Rattle.spd_task.specs.Task.{context_in, left_of, task_view, IsFreshTas
 ghost use Rattle.spd_task.specs.TaskEvents.{TaskGave, EndGives};
 
 use spd_code::{CodeBlock, CodeTree};
+use spd_data::Data;
 use spd_level::{FinishAt, Flow, Level, copy_of};
 use spd_machine::{Job, Machine, Met, level_of_job};
 use spd_words::{Event, FinishKind, Given, NO_FAULT};
@@ -40,26 +41,34 @@ pub enum State<'a> {
 #[derive(Drop)]
 pub struct Task<'a> {
     pub(crate) code: &'a CodeTree,
+    pub(crate) columns: &'a Data,
     pub(crate) kind: FinishKind,
     pub(crate) machine: Machine<'a>,
     pub(crate) state: State<'a>,
 }
 
 impl<'a> Task<'a> {
-    /// The body of a job over a code. `AllocError` comes where memory runs out.
-    pub fn of_job(alloc: Global, code: &'a CodeTree, job: Job<'a>) -> Result<Task<'a>, AllocError>
+    /// The body of a job over a code and columns. `AllocError` comes where memory runs out.
+    pub fn of_job(
+        alloc: Global,
+        code: &'a CodeTree,
+        columns: &'a Data,
+        job: Job<'a>,
+    ) -> Result<Task<'a>, AllocError>
         ensures ready { IfOk result (λ task. IsReady job.entry.kind (task_view task)) }
-        ensures code { IfOk result (λ task. context_in task ≡ context_of code.now) }
+        ensures context { IfOk result (λ task. context_in task ≡ context_of code.now columns.now) }
         ensures left { IfOk result (λ task.
-            for_finish (left_of task) ≡ for_finish (job_eval (context_of code.now) job.entry.body)) }
+            for_finish (left_of task)
+            ≡ for_finish (job_eval (context_of code.now columns.now) job.entry.body)) }
         ensures promise { IfOk result (λ task. (task_view task).means.promise
-            ≡ promise_left job.entry.kind (job_eval (context_of code.now) job.entry.body)) }
+            ≡ promise_left job.entry.kind (job_eval (context_of code.now columns.now) job.entry.body)) }
         ensures tame { IfOk result (λ task. IsTame (task_view task).means) }
     {
         let Job { kind, body } = job;
         let level = level_of_job(body)?;
         Ok(Task {
             code,
+            columns,
             kind,
             machine: Machine {
                 level,
@@ -88,6 +97,7 @@ impl<'a> Task<'a> {
         let level = Level::of_block(body, left, vars)?;
         Ok(Task {
             code: self.code,
+            columns: self.columns,
             kind,
             machine: Machine {
                 level,
@@ -106,6 +116,7 @@ impl<'a> Task<'a> {
     {
         Task {
             code: self.code,
+            columns: self.columns,
             kind: self.kind,
             machine: Machine {
                 level: Level {
@@ -122,7 +133,7 @@ impl<'a> Task<'a> {
     /// Goes on behind the finish that it was resumed from, if it was. It fails after want of memory.
     fn begin(&mut self) -> Result<(), AllocError>
         requires { (task_view self.old).means.awaited ≡ None }
-        ensures code { self.new.code ≡ self.old.code }
+        ensures context { context_in self.new ≡ context_in self.old }
         ensures kind { self.new.kind ≡ self.old.kind }
         ensures ready { IfOk result (λ _. self.new.state ≡ state.Ready) }
         ensures going { IfOk result (λ _. (task_view self.old).stage ≡ Going) }
@@ -147,14 +158,14 @@ impl<'a> Task<'a> {
     /// Goes on to the next event.
     pub(crate) fn step(&mut self, alloc: Global) -> Result<Event<Task<'a>>, AllocError>
         requires { (task_view self.old).means.awaited ≡ None }
-        ensures code { self.new.code ≡ self.old.code }
+        ensures context { context_in self.new ≡ context_in self.old }
         ensures kind { self.new.kind ≡ self.old.kind }
         ensures going { IfOk result (λ _. (task_view self.old).stage ≡ Going) }
         ensures gave { IfOk result (λ event.
             TaskGave (left_of self.old) (machine_frames self.old.machine) self.old self.new event) }
     {
         self.begin()?;
-        match self.machine.run(self.code)? {
+        match self.machine.run(self.code, self.columns)? {
             Met::Offer(x) => Ok(Event::Offer(x)),
             Met::Fault(code) => {
                 // No code of a program is that.
@@ -186,7 +197,7 @@ impl<'a> Task<'a> {
     /// Nothing is left to run. Where the task itself ended in a fault, it gives it first.
     fn end(&mut self) -> Result<Event<Task<'a>>, AllocError>
         requires { self.old.state ≡ state.Ready }
-        ensures code { self.new.code ≡ self.old.code }
+        ensures context { context_in self.new ≡ context_in self.old }
         ensures kind { self.new.kind ≡ self.old.kind }
         ensures gave { IfOk result (λ event. EndGives self.old self.new event) }
     {

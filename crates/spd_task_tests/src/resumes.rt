@@ -8,6 +8,7 @@ use crate::events::Met::{self, Fault, NoMemory, Offer, Over};
 use crate::events::events_of;
 use crate::jobs::{Runs, awaits_gift, awaits_in_async, awaits_in_finish, awaits_nothing, job_of};
 use spd_code::CodeTree;
+use spd_data::Data;
 use spd_syntax::Collect;
 use spd_task::Task;
 use spd_words::{Body, Event, FinishKind, NO_FAULT, Part};
@@ -143,7 +144,8 @@ fn take_next<'a>(rt: &(impl Abort + AllocGlobal), task: &mut Task<'a>) -> Result
 fn expect_resumed(rt: &(impl Abort + AllocGlobal), row: &ResumeRow) -> Result<(), AllocError> {
     let code = code_of(rt.alloc(), row.awaits)?;
     let job = job_of(rt, &code, Runs::Main(FinishKind::Sum))?;
-    let mut task = Task::of_job(rt.alloc(), &code, job)?;
+    let columns = Data::new(rt.alloc());
+    let mut task = Task::of_job(rt.alloc(), &code, &columns, job)?;
     let inside = match row.awaits {
         Awaits::Least | Awaits::Plain => 0,
         Awaits::InAsync | Awaits::InFinish => 1,

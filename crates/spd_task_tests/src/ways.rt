@@ -12,6 +12,7 @@ use crate::jobs::{
     return_from_loop, three_faults, three_offers,
 };
 use spd_code::CodeTree;
+use spd_data::Data;
 use spd_machine::{ElideRegions, Regions, elide_body};
 use spd_region::{Region, run_within};
 use spd_task::{PlainRegions, Task};
@@ -50,11 +51,12 @@ fn expect_unbounded(
     has: Region,
 ) -> Result<(), AllocError> {
     let alloc = rt.alloc();
-    let given = elide_body(alloc, code, job_of(rt, code, runs)?)?;
+    let columns = Data::new(alloc);
+    let given = elide_body(alloc, code, &columns, job_of(rt, code, runs)?)?;
     assert_eq!(rt; given, has.given, "elided: {runs:?}");
-    let given = ElideRegions.region(alloc, code, job_of(rt, code, runs)?)?;
+    let given = ElideRegions.region(alloc, code, &columns, job_of(rt, code, runs)?)?;
     assert_eq!(rt; given, has.given, "a region of the elision: {runs:?}");
-    let given = PlainRegions.region(alloc, code, job_of(rt, code, runs)?)?;
+    let given = PlainRegions.region(alloc, code, &columns, job_of(rt, code, runs)?)?;
     assert_eq!(rt; given, has.given, "a region of vertices: {runs:?}");
     Ok(())
 }
@@ -85,7 +87,8 @@ fn expect_within(
 {
     let job = job_of(rt, code, runs)?;
     let kind = job.kind;
-    let task = Task::of_job(rt.alloc(), code, job)?;
+    let columns = Data::new(rt.alloc());
+    let task = Task::of_job(rt.alloc(), code, &columns, job)?;
     let found = region_within(rt.alloc(), kind, task, bound)?;
     let moves = has.moves.min(bound);
     let given = has.given;
@@ -107,7 +110,8 @@ fn expect_ways(
     expect_within(rt, code, runs, has, u64::MAX)?;
     let job = job_of(rt, code, runs)?;
     let kind = job.kind;
-    let events = events_of(rt.alloc(), Task::of_job(rt.alloc(), code, job)?)?;
+    let columns = Data::new(rt.alloc());
+    let events = events_of(rt.alloc(), Task::of_job(rt.alloc(), code, &columns, job)?)?;
     assert_eq!(rt;
         region_of(kind, events.as_slice()),
         has,
@@ -125,7 +129,8 @@ fn expect_main(
     events: &[Met],
 ) -> Result<(), AllocError> {
     let runs = Runs::Main(kind);
-    let task = Task::of_job(rt.alloc(), code, job_of(rt, code, runs)?)?;
+    let columns = Data::new(rt.alloc());
+    let task = Task::of_job(rt.alloc(), code, &columns, job_of(rt, code, runs)?)?;
     let found = events_of(rt.alloc(), task)?;
     assert_eq!(rt; found.as_slice(), events);
     expect_ways(rt, code, runs, has)?;

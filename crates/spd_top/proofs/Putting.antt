@@ -3,9 +3,9 @@ use Rattle.std.proofs.Common.{◌≡◌, ◌≢◌, ℕ, List, [], ◌++◌, tak
 use Rattle.std.proofs.lemmas.List.{append-nil}
 use Rattle.spd_io.specs.declared.sink.Stopped.{Stopped}
 use Rattle.spd_io.specs.Sink.{SinkState, Gets, GetsFront, Failed, SameFaults}
-use Rattle.spd_spine.specs.declared.walk.End.{End}
-use Rattle.spd_spine.specs.declared.walk.RunError.{RunError}
-use Rattle.spd_spine.specs.declared.walk.RunError.TheVariants.{NoMemory, WriteFailed}
+use Rattle.spd_spine.specs.declared.turn.End.{End}
+use Rattle.spd_spine.specs.declared.turn.RunError.{RunError}
+use Rattle.spd_spine.specs.declared.turn.RunError.TheVariants.{NoMemory, WriteFailed}
 use Rattle.spd_spine.proofs.Putting.{gets_nothing, front_of}
 use Rattle.spd_top.specs.Serving.{Takes, GetsOrFails}
 

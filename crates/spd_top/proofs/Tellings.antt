@@ -8,12 +8,13 @@ use Rattle.spd_meaning.specs.Eval.{Eval, Fell, Back, Fault}
 use Rattle.spd_meaning.specs.Names.{Entry}
 use Rattle.spd_meaning.specs.Programs.{main_meaning}
 use Rattle.spd_meaning.specs.Printed.{printed}
+use Rattle.spd_data.specs.declared.column.Column.{Column}
 use Rattle.spd_code.specs.declared.tree.CodeTree.{CodeTree}
 use Rattle.spd_code.specs.Alike.{valued, valued_end}
-use Rattle.spd_code.specs.Coded.{context_of}
+use Rattle.spd_level.specs.Columns.{context_of}
 use Rattle.spd_check.specs.Checked.{MeansItself}
 use Rattle.spd_spine.specs.Walk.{main_eval, EndsSo}
-use Rattle.spd_spine.specs.declared.walk.End.TheVariants as end
+use Rattle.spd_spine.specs.declared.turn.End.TheVariants as end
 use Rattle.spd_top.specs.declared.words.Command.{Command}
 use Rattle.spd_top.specs.declared.words.Command.TheVariants.{Elide, Check}
 use Rattle.spd_top.specs.Built.{TextOutcome, lex_fault, parse_fault, check_fault, passes}
@@ -79,13 +80,14 @@ valued_told name a = by_end a.end
     by_end (Back value) = refl
     by_end (Fault code) = refl
 
-module _ (name : Bytes) (program : Program) (tree : CodeTree) (means : MeansItself program.items tree) (none : has_columns program.items ≡ false) where
+module _ (name : Bytes) (program : Program) (tree : CodeTree) (columns : List Column) (empty : columns ≡ []) (means : MeansItself program.items tree) (none : has_columns program.items ≡ false) where
   abbrev main : Eval ℤ
-  main = main_eval (context_of tree)
+  main = main_eval (context_of tree columns)
 
   told_is : run_told name main ≡ elided name program
   told_is =
-      let same : main ≡ valued (main_meaning program.items no_columns) = means (context_of tree) no_columns refl (λ c. refl) in
+      let nothing : main ≡ main_eval (context_of tree []) = ap (λ (cs : List Column). main_eval (context_of tree cs)) empty in
+      let same : main ≡ valued (main_meaning program.items no_columns) = nothing ∙ means (context_of tree []) no_columns refl (λ c. refl) in
       ap (run_told name) same ∙ valued_told name (main_meaning program.items no_columns) ∙ rw none refl
 
   pub runs_done : (out out' err : SinkState) → Gets out out' (printed main.given) → SameFaults out out' → EndsSo end.Done main.end → Tells (elided name program) out out' err err 0

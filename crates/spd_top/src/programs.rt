@@ -10,6 +10,7 @@ use crate::status;
 use crate::telling::{fail_run, out_of_memory, refuse_program, tell};
 use spd_canonical::print_program;
 use spd_check::Code;
+use spd_data::Data;
 use spd_io::{Sink, write_all_of};
 use spd_machine::ElideRegions;
 use spd_spine::{End, RunError, run_main};
@@ -70,8 +71,9 @@ pub(crate) fn elide<O: Sink, E: Sink>(
     if has_columns(code.program().items.as_slice()) {
         return refuse_program(alloc, err, name, "NotBuilt");
     }
+    let columns = Data::new(alloc);
     let mut regions = ElideRegions;
-    match run_main(alloc, code.tree(), &mut regions, out) {
+    match run_main(alloc, code.tree(), &columns, &mut regions, out) {
         Ok(End::Done) => status::DONE,
         Ok(End::Fault(fault)) => fail_run(alloc, err, name, fault),
         Err(RunError::WriteFailed) => fail_write(err),

@@ -24,14 +24,14 @@ pub returns-in-Ok-Done-clause-told : goal.returns-in-Ok-Done-clause-told
 returns-in-Ok-Done-clause-told g c =
     let items = c.as_slice.ensures.entries ∙ ap (λ (p : Program). p.items) c.program.ensures.program in
     let none = ap has_columns (sym items) ∙ (sym c.has_columns.ensures ∙ c.if-has_columns.false) in
-    runs_done c.args.name.now c.args.code.now c.tree.result.now c.tree.ensures.meaning none (g.O.Sink.state c.args.out.now) (g.O.Sink.state c.run_main.new.out) (g.E.Sink.state c.args.err.now)
+    runs_done c.args.name.now c.args.code.now c.tree.result.now c.new-columns.result c.new-columns.ensures c.tree.ensures.meaning none (g.O.Sink.state c.args.out.now) (g.O.Sink.state c.run_main.new.out) (g.E.Sink.state c.args.err.now)
     c.in-Ok-Done.ensures.all (c.in-Ok-Done.ensures.kept (ok_well _ _)) (rw c.in-Ok-Done.field-0-is at c.in-Ok-Done.ensures.end)
 
 pub returns-in-Ok-Fault-clause-told : goal.returns-in-Ok-Fault-clause-told
 returns-in-Ok-Fault-clause-told g c =
     let items = c.as_slice.ensures.entries ∙ ap (λ (p : Program). p.items) c.program.ensures.program in
     let none = ap has_columns (sym items) ∙ (sym c.has_columns.ensures ∙ c.if-has_columns.false) in
-    runs_to_fault c.args.name.now c.args.code.now c.tree.result.now c.tree.ensures.meaning none c.in-Ok-Fault.fault (g.O.Sink.state c.args.out.now) (g.O.Sink.state c.run_main.new.out)
+    runs_to_fault c.args.name.now c.args.code.now c.tree.result.now c.new-columns.result c.new-columns.ensures c.tree.ensures.meaning none c.in-Ok-Fault.fault (g.O.Sink.state c.args.out.now) (g.O.Sink.state c.run_main.new.out)
     (g.E.Sink.state c.args.err.now) (g.E.Sink.state c.fail_run.new.err) c.fail_run.result
     c.in-Ok-Fault.ensures.all (c.in-Ok-Fault.ensures.kept (ok_well _ _)) (rw c.in-Ok-Fault.field-0-is at c.in-Ok-Fault.ensures.end) c.fail_run.ensures
 
@@ -39,12 +39,12 @@ pub returns-in-Err-WriteFailed-clause-told : goal.returns-in-Err-WriteFailed-cla
 returns-in-Err-WriteFailed-clause-told g c =
     let items = c.as_slice.ensures.entries ∙ ap (λ (p : Program). p.items) c.program.ensures.program in
     let none = ap has_columns (sym items) ∙ (sym c.has_columns.ensures ∙ c.if-has_columns.false) in
-    rw c.fail_write.ensures.status (runs_stopped c.args.name.now c.args.code.now c.tree.result.now c.tree.ensures.meaning none (g.O.Sink.state c.args.out.now) (g.O.Sink.state c.run_main.new.out)
+    rw c.fail_write.ensures.status (runs_stopped c.args.name.now c.args.code.now c.tree.result.now c.new-columns.result c.new-columns.ensures c.tree.ensures.meaning none (g.O.Sink.state c.args.out.now) (g.O.Sink.state c.run_main.new.out)
     (g.E.Sink.state c.args.err.now) (g.E.Sink.state c.fail_write.new.err) (c.in-Err-WriteFailed.ensures.cause (cc)) c.in-Err-WriteFailed.ensures.front c.fail_write.ensures.told)
 
-pub returns-in-Err-NoMemory-clause-told : goal.returns-in-Err-NoMemory-clause-told
-returns-in-Err-NoMemory-clause-told g c =
+pub returns-clause-told : goal.returns-clause-told
+returns-clause-told g c =
     let items = c.as_slice.ensures.entries ∙ ap (λ (p : Program). p.items) c.program.ensures.program in
     let none = ap has_columns (sym items) ∙ (sym c.has_columns.ensures ∙ c.if-has_columns.false) in
-    runs_out_of_memory c.args.name.now c.args.code.now c.tree.result.now c.tree.ensures.meaning none (g.O.Sink.state c.args.out.now) (g.O.Sink.state c.run_main.new.out)
+    runs_out_of_memory c.args.name.now c.args.code.now c.tree.result.now c.new-columns.result c.new-columns.ensures c.tree.ensures.meaning none (g.O.Sink.state c.args.out.now) (g.O.Sink.state c.run_main.new.out)
     (g.E.Sink.state c.args.err.now) (g.E.Sink.state c.out_of_memory.new.err) c.out_of_memory.result (c.in-Err-NoMemory.ensures.kept (ended_for_memory _ (cc))) c.in-Err-NoMemory.ensures.front c.out_of_memory.ensures

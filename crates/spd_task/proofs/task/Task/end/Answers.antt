@@ -6,13 +6,14 @@ use Rattle.spd_task.proofs.Events.{gave_own}
 use Rattle.spd_task.proofs.task.Task.end.Goals as goal
 
 pub returns-else-code-clause-gave : goal.returns-else-code-clause-gave
-returns-else-code-clause-gave c o a n code kind h =
+returns-else-code-clause-gave c o a n context kind h =
     let t = c.args.self.now in
     let l : c.in-Fault.code < no_fault = search (rules, arith) in
     let z : t.machine.level.flow ≡ flow.Fault c.in-Fault.code = search rules in
     let f : c.replace.new.dest ≡ flow.Fell = search rules in
     let new : Task = record {
       code = t.code;
+      columns = t.columns;
       kind = t.kind;
       machine = record {
         level =
@@ -21,4 +22,4 @@ returns-else-code-clause-gave c o a n code kind h =
       };
       state = t.state;
     } in
-    gave_own o new a n code kind t.machine c.in-Fault.code l c.requires z f refl refl h
+    gave_own o new a n context kind t.machine c.in-Fault.code l c.requires z f refl refl h

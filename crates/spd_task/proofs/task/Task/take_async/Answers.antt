@@ -16,6 +16,7 @@ returns c =
     let z : 0 < length b.machine.level.frames.items = search rules in
     let n : Task = record {
       code = o.code;
+      columns = o.columns;
       kind = o.kind;
       machine = record {
         level =
