@@ -4,7 +4,8 @@
 It makes programs at random, each with two texts: one with blanks, comments, line ends and parentheses
 strewn about, and the canonical one, which is written here by rules of its own and not by the product.
 Then it runs the test of crates/spd_text_tests on them in a copy of the crates: what is read of the first
-must be printed as the second, and what is read of the second too. Nothing is proved.
+must be printed as the second, and what is read of the second too. Each program of examples/ is read,
+printed, read again and printed again: both texts must be the same. Nothing is proved.
 
     tools/check_canonical.py [PROGRAMS [SEED]]     300 programs, seed 1
 """
@@ -220,18 +221,50 @@ def literal(text):
     return 'b"' + "".join(escapes.get(c, c) for c in text) + '"'
 
 
-def run(rows_of_batch, top):
-    """Runs the test of texts on these rows in a copy of the crates; what it wrote, where it failed."""
-    source = top / "crates/spd_text_tests/src/printing.rt"
-    text = source.read_text()
+# A test that what programs are printed as is read and printed as the same.
+LAW = """
+#[test]
+fn examples_are_read_again(rt: HostRuntime) -> Result<(), Fail> {
+    for text in EXAMPLES {
+        let printed = canonical(rt.alloc(), text)?;
+        let again = canonical(rt.alloc(), &printed)?;
+        assert_eq!(rt; again.as_slice(), printed.as_slice(), "of {text:?}");
+    }
+    Ok(())
+}
+"""
+
+
+def examples():
+    """The texts of the programs of examples/ that aren't refused."""
+    return [p.read_text() for folder in ("examples", "examples/canonical") for p in sorted(pathlib.Path(folder).glob("*.sp"))]
+
+
+def with_law(text, programs):
+    """The tests of texts, with one more over these programs."""
+    table = "".join(f"    {literal(p)},\n" for p in programs)
+    return text + f"\nconst EXAMPLES: [&[u8]; {len(programs)}] = [\n{table}];\n{LAW}"
+
+
+def with_rows(text, rows_of_batch):
+    """The tests of texts, over these rows."""
     table = "".join(f"    ({literal(a)}, {literal(b)}),\n" for a, b in rows_of_batch)
     begin = text.index("const ROWS")
     end = text.index("];\n", begin) + 3
     head = f"const ROWS: [(&[u8], &[u8]); {len(rows_of_batch)}] = [\n"
-    source.write_text(text[:begin] + head + table + "];\n" + text[end:])
+    return text[:begin] + head + table + "];\n" + text[end:]
+
+
+def run(top, change):
+    """Runs the tests of texts, changed so, in a copy of the crates; what they wrote, where one failed or is missing."""
+    source = top / "crates/spd_text_tests/src/printing.rt"
+    text = source.read_text()
+    source.write_text(change(text))
+    tests = sum(p.read_text().count("#[test]") for p in source.parent.glob("*.rt"))
     done = subprocess.run(["rt", "try", "--test"], cwd=source.parent.parent, capture_output=True, text=True)
     source.write_text(text)
-    return None if done.returncode == 0 and "1 passed" in done.stdout else done.stdout + done.stderr
+    fine = done.returncode == 0 and f" {tests} passed; 0 failed" in done.stdout
+    return None if fine else done.stdout + done.stderr
 
 
 def main():
@@ -245,11 +278,18 @@ def main():
             shutil.copytree(f"crates/{crate}", top / "crates" / crate, ignore=shutil.ignore_patterns("out"))
         kept = [line for line in (top / "crates.txt").read_text().splitlines() if line.split(":")[0] in USED]
         (top / "crates.txt").write_text("\n".join(kept) + "\n")
+        programs = examples()
+        fault = run(top, lambda text: with_law(text, programs))
+        if fault:
+            print(f"examples:\n{fault}")
+            sys.exit(1)
         for at in range(0, len(made), BATCH):
-            fault = run(made[at : at + BATCH], top)
+            batch = made[at : at + BATCH]
+            fault = run(top, lambda text: with_rows(text, batch))
             if fault:
                 print(f"rows {at} to {at + BATCH} of seed {seed}:\n{fault}")
                 sys.exit(1)
+    print(f"canonical: {len(programs)} examples are read again as they are printed")
     print(f"canonical: {len(made)} programs of seed {seed} are printed as they must be, and read again")
 
 
