@@ -1,2 +1,3 @@
 pub mod Coins
 pub mod Steady
+pub mod Tosses
