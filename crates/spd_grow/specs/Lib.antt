@@ -1,3 +1,2 @@
-pub mod Coins
 pub mod Steady
 pub mod Tosses

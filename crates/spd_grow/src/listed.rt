@@ -1,7 +1,7 @@
 // A coin that follows a list.
 
 ghost use Rattle.std.specs.Prelude.{◌≡◌, IfOk, drop, true, false};
-ghost use Rattle.spd_grow.specs.Coins.{Raised};
+ghost use Rattle.spd_count.specs.Counts.{Raised};
 ghost use Rattle.spd_grow.specs.Tosses.{ListCoinState, next_side};
 
 use crate::coin::Coin;

@@ -3,7 +3,7 @@
 ghost use Rattle.std.specs.Prelude.{◌≡◌, ◌<◌, ◌%◌, ◌^◌, ◌↔◌, IsTrue, true, false};
 ghost use Rattle.rand_pcg.specs.Lcg.{started, increment_of};
 ghost use Rattle.rand_pcg.specs.Pcg.{multiplier_64, pcg32};
-ghost use Rattle.spd_grow.specs.Coins.{Raised};
+ghost use Rattle.spd_count.specs.Counts.{Raised};
 ghost use Rattle.spd_grow.specs.Tosses.{PcgCoinState};
 
 use crate::coin::Coin;
