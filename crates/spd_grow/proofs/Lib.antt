@@ -1,3 +1,5 @@
--- Coin::flip's clauses (src/coin.rt), by `Raised` of specs/Coins.
+-- Coin::flip's clauses (src/coin.rt), by `Raised` of spd_count.
 -- Steady coins: a saturating addition raises the number, or leaves it at its end.
+-- PcgCoin::toss (src/pcg.rt): the next word is `pcg32` of the generator's own crate; its low half is compared.
+-- ListCoin (src/listed.rt): the front of a deque, by `next_side` of specs/Tosses.
 -- There is no lemma of the crate's own: the prover finds each answer.

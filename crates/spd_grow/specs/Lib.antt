@@ -1,2 +1,2 @@
-pub mod Coins
 pub mod Steady
+pub mod Tosses

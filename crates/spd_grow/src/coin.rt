@@ -4,7 +4,7 @@
 /// side falls isn't promised.
 pub trait Coin: Send {
     ghost use Rattle.std.specs.Prelude.{◌≡◌, ℕ, true, false};
-    ghost use Rattle.spd_grow.specs.Coins.{Raised};
+    ghost use Rattle.spd_count.specs.Counts.{Raised};
 
     ghost tails: { Self → ℕ };
 

@@ -6,8 +6,12 @@
 
 mod coin;
 mod grown;
+mod listed;
+mod pcg;
 mod steady;
 
 pub use coin::Coin;
 pub use grown::{Grown, How};
+pub use listed::ListCoin;
+pub use pcg::PcgCoin;
 pub use steady::{Heads, Tails};

@@ -39,7 +39,7 @@ impl Tails {
 }
 
 impl Coin for Heads {
-    ghost use Rattle.spd_grow.specs.Coins.{Raised};
+    ghost use Rattle.spd_count.specs.Counts.{Raised};
     ghost use Rattle.spd_grow.specs.Steady.{heads_fallen};
 
     ghost tails = { λ _. 0 };
@@ -57,7 +57,7 @@ impl Coin for Heads {
 }
 
 impl Coin for Tails {
-    ghost use Rattle.spd_grow.specs.Coins.{Raised};
+    ghost use Rattle.spd_count.specs.Counts.{Raised};
     ghost use Rattle.spd_grow.specs.Steady.{tails_fallen};
 
     ghost tails = { tails_fallen };

@@ -1,4 +1,4 @@
--- What a flip does to the two numbers of a coin.
+-- A count of 64 bits, which is raised until it stands at its end.
 use Rattle.std.specs.Prelude.{◌≡◌, ◌⊎◌, ◌<◌, ◌-◌, ◌^◌, ℕ}
 
 -- where a number of 64 bits ends

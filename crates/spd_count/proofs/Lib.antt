@@ -1,0 +1,1 @@
+-- There is no call, and so no proof: `Raised` (specs/Counts) is cited by the contracts of coins and of lanes.

@@ -1,0 +1,3 @@
+-- Tests: each loop that pushes keeps the sum of what was pushed and what is left to push below the room.
+-- No lemma stands here; the invariants lie beside their functions.
+-- A row of a test is compared when it runs, and by no proof.

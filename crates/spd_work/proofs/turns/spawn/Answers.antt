@@ -1,0 +1,36 @@
+use Rattle.std.proofs.Common.{arith, ◌∙◌, refl}
+use Rattle.spd_rule.specs.Shares.{field_plan, share_known}
+use Rattle.spd_work.proofs.turns.spawn.Goals as goal
+
+pub loop-left-init : goal.loop-left-init
+loop-left-init g c = (
+  c.requires.of,
+  (refl, refl),
+  c.requires.may.0,
+  c.new-call.ensures (field_plan c.args.field.now)
+      (record { known = share_known c.args.share.now; runs = c.requires.may.0; body = c.args.body; rest = c.args.rest })
+      refl refl c.requires.may.1,
+)
+
+pub loop-left-smaller : goal.loop-left-smaller
+loop-left-smaller g c =
+    let i = c.loop-left.invariant in
+    (rw c.in-More.is at (c.turn.ensures.turned _ i.3).comes).1
+
+pub loop-left-preserved : goal.loop-left-preserved
+loop-left-preserved g c =
+    let i = c.loop-left.invariant in
+    let same = c.turn.ensures.same in
+    (same.0 ∙ i.0, (same.0 ∙ i.1.0, same.1 ∙ i.1.1), i.2, (rw c.in-More.is at (c.turn.ensures.turned _ i.3).comes).0)
+
+pub returns-in-Done-clause-spawned : goal.returns-in-Done-clause-spawned
+returns-in-Done-clause-spawned g c =
+    let comes = rw c.in-Done.is at (c.turn.ensures.turned _ c.loop-left.invariant.3).comes in
+    let next = comes.0 in
+    let below = comes.1 in
+    (omega arith, below, record { over = comes.2; slots = comes.3 })
+
+pub returns-in-Full-clause-spawned : goal.returns-in-Full-clause-spawned
+returns-in-Full-clause-spawned g c =
+    let comes = rw c.in-Full.is at (c.turn.ensures.turned _ c.loop-left.invariant.3).comes in
+    record { body_is = comes.1; rest_is = comes.2; unmoved = comes.3 }

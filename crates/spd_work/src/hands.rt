@@ -1,0 +1,10 @@
+// What a worker runs vertices with.
+
+use spd_rule::Share;
+
+/// A worker's share of the table, and its handle on the ready vertices.
+#[derive(Drop)]
+pub(crate) struct Hands<B, Q> {
+    pub share: Share<B>,
+    pub ready: Q,
+}

@@ -1,0 +1,6 @@
+//! Workers that run the vertices of a field.
+#![tactic(auto)]
+
+mod events;
+mod hands;
+mod turns;
