@@ -1,5 +1,5 @@
 -- What a command line asks for.
-use Rattle.std.specs.Prelude.{ℕ, List, [], ◌∷◌, Option, None, option_map, option_and_then, unwrap_or}
+use Rattle.std.specs.Prelude.{◌≡◌, true, is_some, ℕ, List, [], ◌∷◌, Option, None, option_map, option_and_then, unwrap_or}
 use Rattle.std.specs.Option.{option_map_or}
 use Rattle.std.specs.Str.Parse.{digits_value}
 use Rattle.spd_words.specs.declared.scheme.Scheme.{Scheme}
@@ -49,3 +49,17 @@ asked_by name.Run all = run (text_in argument.Program all) (settings_in all)
 abbrev pub asked_of : List (List ℕ) → Option Asked
 asked_of [] = None
 asked_of (word ∷ words) = option_and_then (λ command. option_map (asked_by command) (arguments_in command words)) (command_called word)
+
+abbrev pub name_of : Asked → CommandName
+name_of (elide program) = name.Elide
+name_of (check program) = name.Check
+name_of (run program settings) = name.Run
+
+-- the command of a command line
+abbrev pub name_in : List (List ℕ) → Option CommandName
+name_in words = option_map name_of (asked_of words)
+
+-- The words are this command with lawful words behind it.
+pub record IsLine (words : List (List ℕ)) (command : CommandName) (behind : List (List ℕ)) : Type 0 where
+  pub lawful : is_some (arguments_in command behind) ≡ true
+  pub asks : asked_of words ≡ option_map (asked_by command) (arguments_in command behind)

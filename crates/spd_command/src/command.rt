@@ -1,13 +1,13 @@
 // What the words of a command line ask for.
 
-ghost use Rattle.std.specs.Prelude.{◌≡◌, ◌↔◌, List, [], map, Some, None, IfOk, Err, option_map, unwrap_or};
+ghost use Rattle.std.specs.Prelude.{◌≡◌, ◌↔◌, List, [], map, Some, None, IfOk, Err, MatchOption, option_map, unwrap_or};
 ghost use Rattle.std.specs.Option.{option_map_or};
 ghost use Rattle.std.specs.String.{string_bytes};
 ghost use Rattle.std.specs.Str.Parse.{digits_value};
 ghost use Rattle.spd_command.specs.Lines.{Passed};
 ghost use Rattle.spd_command.specs.Values.{scheme_called};
 ghost use Rattle.spd_command.specs.Found.{word_found, IsFound, MayBeNumber};
-ghost use Rattle.spd_command.specs.Asked.{asked_of, asked_by, settings_in};
+ghost use Rattle.spd_command.specs.Asked.{asked_of, asked_by, name_in, settings_in, IsLine};
 ghost use Rattle.spd_command.specs.Seen.{asked};
 
 use crate::argument::Argument;
@@ -121,23 +121,43 @@ fn command_of<'a>(name: CommandName, found: &ArgMatches<'a>) -> Command<'a>
     }
 }
 
-/// What the words of a command line ask for. The first is the command. Behind it stand its operands,
-/// in order, and options, each with its value as the next word, in any place.
-///
-/// `Refused` comes exactly where the words are no command line, whatever memory there is.
+/// The command of a command line and the words behind it, or none where the words are no command line.
+fn line_of<'a>(words: &'a [String]) -> Option<(CommandName, &'a [String])>
+    ensures { MatchOption result (asked_of (map string_bytes words.now) ≡ None)
+        (λ line. IsLine (map string_bytes words.now) line.0 (map string_bytes line.1.now)) }
+{
+    match words {
+        [first, rest @ ..] => {
+            let name = CommandName::called(first.as_bytes())?;
+            if are_lawful(name, rest) {
+                Some((name, rest))
+            } else {
+                None
+            }
+        }
+        [] => None,
+    }
+}
+
+/// The command of a command line, or none where the words are no command line. The first word names
+/// it; behind it stand its operands, in order, and options, each with its value as the next word, in
+/// any place. It takes no memory.
+pub fn lawful_command(words: &[String]) -> Option<CommandName>
+    ensures { result ≡ name_in (map string_bytes words.now) }
+{
+    let (name, _) = line_of(words)?;
+    Some(name)
+}
+
+/// What the words of a command line ask for. `Refused` comes exactly where they are no command line,
+/// whatever memory there is.
 pub fn read_command<'a>(alloc: Global, words: &'a [String]) -> Result<Command<'a>, CommandError>
     ensures read { IfOk result (λ command. Some (asked command) ≡ asked_of (map string_bytes words.now)) }
     ensures refused { (result ≡ Err CommandError.Refused) ↔ (asked_of (map string_bytes words.now) ≡ None) }
 {
-    let [first, rest @ ..] = words else {
+    let Some((name, rest)) = line_of(words) else {
         return Err(CommandError::Refused);
     };
-    let Some(name) = CommandName::called(first.as_bytes()) else {
-        return Err(CommandError::Refused);
-    };
-    if !are_lawful(name, rest) {
-        return Err(CommandError::Refused);
-    }
     match matches(alloc, name, rest) {
         Ok(found) => Ok(command_of(name, &found)),
         Err(_) => Err(CommandError::NoMemory),

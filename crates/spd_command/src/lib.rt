@@ -10,6 +10,6 @@ mod settings;
 mod value;
 
 pub use argument::{Argument, ValueKind};
-pub use command::{Command, CommandError, read_command};
+pub use command::{Command, CommandError, lawful_command, read_command};
 pub use command_name::CommandName;
 pub use settings::{STANDARD, Settings};
