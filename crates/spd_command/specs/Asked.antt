@@ -3,12 +3,12 @@ use Rattle.std.specs.Prelude.{◌≡◌, true, is_some, ℕ, List, [], ◌∷◌
 use Rattle.std.specs.Option.{option_map_or}
 use Rattle.std.specs.Str.Parse.{digits_value}
 use Rattle.spd_words.specs.declared.scheme.Scheme.{Scheme}
+use Rattle.spd_words.specs.declared.scheme.Scheme.TheVariants.{Grow as ByTosses}
 use Rattle.spd_command.specs.declared.argument.Argument.{Argument}
 use Rattle.spd_command.specs.declared.argument.Argument.TheVariants as argument
 use Rattle.spd_command.specs.declared.command_name.CommandName.{CommandName}
 use Rattle.spd_command.specs.declared.command_name.CommandName.TheVariants as name
 use Rattle.spd_command.specs.declared.settings.Settings.{Settings}
-use Rattle.spd_command.specs.declared.settings.TheConstants.{STANDARD}
 use Rattle.spd_command.specs.Table.{command_called}
 use Rattle.spd_command.specs.Values.{scheme_called}
 use Rattle.spd_command.specs.Lines.{Passed, arguments_in, value_in}
@@ -30,14 +30,18 @@ number_or standard argument all = option_map_or (digits_value 10) (value_in argu
 abbrev pub scheme_or : Scheme → Argument → List Passed → Scheme
 scheme_or standard argument all = option_map_or scheme_called (value_in argument all) standard
 
+-- what holds where no option is given
+abbrev pub standard : Settings
+standard = record { workers = 4; moves = 16384; nodes = 16384; tree = ByTosses; grow = 32768; seed = 1 }
+
 abbrev pub settings_in : List Passed → Settings
 settings_in all = record {
-  workers = number_or STANDARD.workers argument.Workers all;
-  moves = number_or STANDARD.moves argument.Moves all;
-  nodes = number_or STANDARD.nodes argument.Nodes all;
-  tree = scheme_or STANDARD.tree argument.Tree all;
-  grow = number_or STANDARD.grow argument.Grow all;
-  seed = number_or STANDARD.seed argument.Seed all;
+  workers = number_or standard.workers argument.Workers all;
+  moves = number_or standard.moves argument.Moves all;
+  nodes = number_or standard.nodes argument.Nodes all;
+  tree = scheme_or standard.tree argument.Tree all;
+  grow = number_or standard.grow argument.Grow all;
+  seed = number_or standard.seed argument.Seed all;
 }
 
 abbrev pub asked_by : CommandName → List Passed → Asked
