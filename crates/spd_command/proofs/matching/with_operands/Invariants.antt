@@ -1,0 +1,8 @@
+-- The operands before the index are there.
+use Rattle.std.proofs.Common.{◌≡◌, take}
+use Rattle.clap.specs.Words.{app_of}
+use Rattle.spd_command.specs.Matching.{with_operands}
+use Rattle.spd_command.proofs.matching.with_operands.Given as goal
+
+abbrev pub invariant-loop-each : goal.invariant-loop-each
+invariant-loop-each l = app_of l.made ≡ with_operands (take l.each-index l.operands) (app_of l.fn.parser)

@@ -1,0 +1,9 @@
+-- A command as what it asks for.
+use Rattle.spd_command.specs.declared.command.Command.{Command}
+use Rattle.spd_command.specs.declared.command.Command.TheVariants as command
+use Rattle.spd_command.specs.Asked.{Asked, elide, check, run}
+
+abbrev pub asked : Command → Asked
+asked (command.Elide program) = elide program.now
+asked (command.Check program) = check program.now
+asked (command.Run program settings) = run program.now settings

@@ -1,0 +1,66 @@
+-- The table of commands and of their arguments.
+use Rattle.std.specs.Prelude.{ℕ, Bool, List, [], ◌∷◌, Option, codes, find}
+use Rattle.std.specs.Str.{bytes_eq}
+use Rattle.spd_command.specs.declared.argument.Argument.{Argument}
+use Rattle.spd_command.specs.declared.argument.Argument.TheVariants.{Program, Workers, Moves, Nodes, Tree, Grow, Seed}
+use Rattle.spd_command.specs.declared.argument.ValueKind.{ValueKind}
+use Rattle.spd_command.specs.declared.argument.ValueKind.TheVariants.{Name, Number, Scheme}
+use Rattle.spd_command.specs.declared.command_name.CommandName.{CommandName}
+use Rattle.spd_command.specs.declared.command_name.CommandName.TheVariants.{Elide, Check, Run}
+
+-- ---- arguments
+
+abbrev pub argument_name : Argument → List ℕ
+argument_name Program = codes "PROGRAM"
+argument_name Workers = codes "workers"
+argument_name Moves = codes "moves"
+argument_name Nodes = codes "nodes"
+argument_name Tree = codes "tree"
+argument_name Grow = codes "grow"
+argument_name Seed = codes "seed"
+
+-- the words that an argument takes as its value
+abbrev pub kind_of_value : Argument → ValueKind
+kind_of_value Program = Name
+kind_of_value Workers = Number 1 64
+kind_of_value Moves = Number 1 262144
+kind_of_value Nodes = Number 0 262144
+kind_of_value Tree = Scheme
+kind_of_value Grow = Number 0 65536
+kind_of_value Seed = Number 0 4294967295
+
+-- an option's word is two hyphens and its name
+abbrev pub is_option_word : Argument → List ℕ → Bool
+is_option_word argument word = bytes_eq (45 ∷ 45 ∷ argument_name argument) word
+
+-- ---- commands
+
+abbrev pub command_word : CommandName → List ℕ
+command_word Elide = codes "elide"
+command_word Check = codes "check"
+command_word Run = codes "run"
+
+-- the operands, in order
+abbrev pub operands_of : CommandName → List Argument
+operands_of Elide = Program ∷ []
+operands_of Check = Program ∷ []
+operands_of Run = Program ∷ []
+
+abbrev pub options_of : CommandName → List Argument
+options_of Elide = []
+options_of Check = []
+options_of Run = Workers ∷ Moves ∷ Nodes ∷ Tree ∷ Grow ∷ Seed ∷ []
+
+abbrev pub all_commands : List CommandName
+all_commands = Elide ∷ Check ∷ Run ∷ []
+
+-- ---- what a word names
+
+abbrev pub first_called : List CommandName → List ℕ → Option CommandName
+first_called commands word = find (λ command. bytes_eq (command_word command) word) commands
+
+abbrev pub command_called : List ℕ → Option CommandName
+command_called word = first_called all_commands word
+
+abbrev pub option_called : List Argument → List ℕ → Option Argument
+option_called options word = find (λ option. is_option_word option word) options
