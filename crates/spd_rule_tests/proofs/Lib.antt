@@ -5,3 +5,4 @@ pub mod Drawn
 pub mod Placed
 pub mod Stored
 pub mod Signalled
+pub mod Paid

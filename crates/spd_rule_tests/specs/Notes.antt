@@ -115,3 +115,9 @@ pub record Wakes (f : ℕ) (n : Notes) : Type 0 where
   pub runs : Running
   pub running : n.running ≡ Some runs
   pub right : runs.right ≡ 0
+
+-- It runs vertex 1, and has no move in flight.
+pub record RunsEnd (r : Running) (n : Notes) : Type 0 where
+  pub running : n.running ≡ Some r
+  pub end : r.vertex ≡ 1
+  pub flight : n.flight ≡ None

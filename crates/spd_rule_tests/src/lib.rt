@@ -3,6 +3,7 @@
 #![tactic(auto)]
 
 mod notes;
+mod payments;
 mod player;
 mod seats;
 mod signals;

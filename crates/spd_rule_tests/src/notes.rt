@@ -2,7 +2,7 @@
 
 ghost use Rattle.std.specs.Prelude.{◌≡◌, IfSome};
 ghost use Rattle.std.specs.Bool.{OnTrue};
-ghost use Rattle.spd_rule_tests.specs.Notes.{new_notes, IsAtLeisure, KnowsInc, Wakes, FliesAs, Signals, IsIdle, HasHandles, Makes, Draws, OpensAt, SpawnsAt, Works};
+ghost use Rattle.spd_rule_tests.specs.Notes.{new_notes, IsAtLeisure, KnowsInc, Wakes, FliesAs, Signals, IsIdle, HasHandles, Makes, Draws, OpensAt, SpawnsAt, Works, RunsEnd};
 
 use spd_state::{Draw, Flight, Running};
 
@@ -222,6 +222,16 @@ impl Notes {
                 if self.claimed.is_none() && self.flight.is_none() && running.right == 0 => {
                 Some(finish)
             }
+            _ => None,
+        }
+    }
+
+    /// Vertex 1, where it runs that and has no move in flight.
+    pub fn ending(&self) -> Option<Running>
+        ensures { IfSome result (λ r. RunsEnd r self.now) }
+    {
+        match self.running {
+            Some(running) if running.vertex == 1 && self.flight.is_none() => Some(running),
             _ => None,
         }
     }

@@ -68,6 +68,46 @@ const ALONE: [Row; 34] = [
     Row(Turn::Start(1, 2), 2, 13, 3),
 ];
 
+/// The word of a sum to which 4 and -9 were offered.
+const GIFT: u64 = u64::MAX - 4;
+
+/// Two vertices of finish 0 run one after the other. The first offers 4 and ends; the second offers -9,
+/// fails with the codes 33, 25 and 40, and is told the finish, whose waiting vertex collects and ends all.
+const BOOKS: [Row; 17] = [
+    Row(Turn::Start(2, 10), 10, 14, 11),
+    Row(Turn::AddSum(4), 0, 18, 4),
+    Row(Turn::Claim, 8, 10, 9),
+    Row(Turn::Depart, 4, 3, 2),
+    Row(Turn::Start(3, 14), 14, 15, 15),
+    Row(Turn::AddSum(-9), 4, 18, GIFT),
+    Row(Turn::LowerFault(33), NO_FAULT, 21, 33),
+    Row(Turn::LowerFault(25), 33, 21, 25),
+    Row(Turn::LowerFault(40), 25, 21, 25),
+    Row(Turn::Claim, 9, 10, 10),
+    Row(Turn::Depart, 2, 3, 0),
+    Row(Turn::Wake, 1, 13, 2),
+    Row(Turn::Start(1, 2), 2, 13, 3),
+    Row(Turn::SeeSum(0), GIFT, SAME, 0),
+    Row(Turn::SeeFault(0), 25, SAME, 0),
+    Row(Turn::SetDone, 0, 2, 1),
+    Row(Turn::SeeDone, 1, SAME, 0),
+];
+
+/// The words of 7, 3 and 5 as a least counts them: the lesser value has the greater word.
+const SEVEN: u64 = 9_223_372_036_854_775_800;
+
+const THREE: u64 = 9_223_372_036_854_775_804;
+
+const FIVE: u64 = 9_223_372_036_854_775_802;
+
+const BEST: [Row; 5] = [
+    Row(Turn::Start(2, 10), 10, 14, 11),
+    Row(Turn::RaiseBest(SEVEN), 0, 18, SEVEN),
+    Row(Turn::RaiseBest(THREE), SEVEN, 18, THREE),
+    Row(Turn::RaiseBest(FIVE), THREE, 18, THREE),
+    Row(Turn::SeeSum(0), THREE, SAME, 0),
+];
+
 /// How many of the rows make, start vertex 0 and store its spawn.
 const FORKED: usize = 13;
 
@@ -313,4 +353,25 @@ fn a_share_with_a_seat_missing_closes_nothing(rt: HostRuntime) {
     assert_eq!(rt; left.share.spare(), 62);
     assert_eq!(rt; right.share.spare(), 0);
     assert!(rt; left.close(field).is_none());
+}
+
+/// Plays the rows of the fork and then these, and compares each word with what the rows leave.
+fn follow_fork(rt: &impl Abort, alloc: Global, rows: &[Row]) {
+    let (field, mut player) = begin(rt, alloc);
+    play(rt, &field, &mut player, &ALONE[..FORKED]);
+    play(rt, &field, &mut player, rows);
+    let mut words = words_after(FORKED);
+    for Row(_, _, place, word) in rows {
+        if *place < 24 {
+            words[*place] = *word;
+        }
+    }
+    let closed = player.close(field).expect(rt, "all seats");
+    compare(rt, &closed, &words);
+}
+
+#[test]
+fn offers_and_faults_of_one_finish(rt: HostRuntime) {
+    follow_fork(&rt, rt.alloc(), &BOOKS);
+    follow_fork(&rt, rt.alloc(), &BEST);
 }

@@ -26,6 +26,13 @@ pub enum Turn {
     Arrive,
     Depart,
     Wake,
+    AddSum(i64),
+    RaiseBest(u64),
+    LowerFault(u64),
+    SeeSum(u32),
+    SeeFault(u32),
+    SetDone,
+    SeeDone,
 }
 
 impl Player {
@@ -55,6 +62,13 @@ impl Player {
             Turn::Arrive => self.arrive(field),
             Turn::Depart => self.depart(field),
             Turn::Wake => self.wake(field),
+            Turn::AddSum(x) => self.add_sum(field, x),
+            Turn::RaiseBest(x) => self.raise_best(field, x),
+            Turn::LowerFault(code) => self.lower_fault(field, code),
+            Turn::SeeSum(d) => self.see_sum(field, d),
+            Turn::SeeFault(d) => self.see_fault(field, d),
+            Turn::SetDone => self.set_done(field),
+            Turn::SeeDone => self.see_done(field),
         }
     }
 }
