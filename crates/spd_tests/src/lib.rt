@@ -6,6 +6,8 @@ mod arguments;
 #[cfg(test)]
 mod checks;
 #[cfg(test)]
+mod column_rows;
+#[cfg(test)]
 mod commands;
 #[cfg(test)]
 mod events;
@@ -23,5 +25,7 @@ mod programs;
 mod refused;
 #[cfg(test)]
 mod serving;
+#[cfg(test)]
+mod spine_rows;
 #[cfg(test)]
 mod ways;

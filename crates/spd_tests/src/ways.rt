@@ -7,6 +7,7 @@ ghost use Rattle.spd_task.specs.Task.{task_view};
 use crate::events::{Met, events_of};
 use crate::jobs::first_job;
 use spd_check::Code;
+use spd_data::Data;
 use spd_machine::{ElideRegions, Regions, elide_body};
 use spd_region::{Region, run_within};
 use spd_task::{PlainRegions, Task};
@@ -44,16 +45,28 @@ pub(crate) fn expect_unbounded(
     has: Region,
     row: &str,
 ) -> Result<(), AllocError> {
+    let columns = Data::new(rt.alloc());
+    expect_unbounded_over(rt, code, &columns, has, row)
+}
+
+/// The same over columns.
+pub(crate) fn expect_unbounded_over(
+    rt: &(impl Abort + AllocGlobal),
+    code: &Code,
+    columns: &Data,
+    has: Region,
+    row: &str,
+) -> Result<(), AllocError> {
     let alloc = rt.alloc();
-    let given = elide_body(alloc, code.tree(), first_job(rt, code))?;
+    let given = elide_body(alloc, code.tree(), columns, first_job(rt, code))?;
     assert_eq!(rt; given, has.given, "elided: {row}");
-    let given = ElideRegions.region(alloc, code.tree(), first_job(rt, code))?;
+    let given = ElideRegions.region(alloc, code.tree(), columns, first_job(rt, code))?;
     assert_eq!(rt; given, has.given, "a region of the elision: {row}");
-    let given = PlainRegions.region(alloc, code.tree(), first_job(rt, code))?;
+    let given = PlainRegions.region(alloc, code.tree(), columns, first_job(rt, code))?;
     assert_eq!(rt; given, has.given, "a region of vertices: {row}");
     let job = first_job(rt, code);
     let kind = job.kind;
-    let events = events_of(alloc, Task::of_job(alloc, code.tree(), job)?)?;
+    let events = events_of(alloc, Task::of_job(alloc, code.tree(), columns, job)?)?;
     assert_eq!(rt;
         events.as_slice().last(),
         Some(&Met::Over),
@@ -89,7 +102,8 @@ pub(crate) fn expect_within(
 {
     let job = first_job(rt, code);
     let kind = job.kind;
-    let task = Task::of_job(rt.alloc(), code.tree(), job)?;
+    let columns = Data::new(rt.alloc());
+    let task = Task::of_job(rt.alloc(), code.tree(), &columns, job)?;
     let found = region_within(rt.alloc(), kind, task, bound)?;
     let moves = has.moves.min(bound);
     let given = has.given;
