@@ -13,6 +13,7 @@ use Rattle.spd_state.specs.Steps.{stepped, start_run, start_view}
 use Rattle.spd_state.specs.declared.view.Running.{Running}
 use Rattle.spd_state.specs.declared.view.View.{View}
 use Rattle.spd_rule.specs.Steps.{see_known}
+use Rattle.spd_rule.specs.Kept.{IsFit}
 use Rattle.spd_vertex.specs.Starting.{StartsBy}
 use Rattle.spd_vertex.specs.declared.starting.Start.TheVariants.{Ours}
 use Rattle.spd_dag.specs.Acts.{MayAct, MayChain, MaySpawn, MaySignal}
@@ -34,6 +35,10 @@ is_other zero other = refl
 is_other (suc zero) other = absurd (other refl)
 is_other (suc (suc i)) other = refl
 
+-- a piece that has a number may lie in a slot
+pub fit_piece : (b : Piece) → (piece_view b).stage ≡ Going → IsFit (piece_view b)
+fit_piece b goes = record { goes = goes; tame = λ (wild : true ≡ false). absurd (cc) }
+
 module _ (seats : ℕ) (r : Running) (v : View) (w : IsWorking seats r v) where
   pub may_act : MayAct v r
   may_act = record {
@@ -45,18 +50,24 @@ module _ (seats : ℕ) (r : Running) (v : View) (w : IsWorking seats r v) where
         let d = ap length w.has.above in omega arith;
   }
 
-  pub may_chain : (body rest : Piece) → (piece_view body).stage ≡ Going → MayChain v r Plain (piece_view body) (piece_view rest)
-  may_chain body rest goes = record {
+  pub may_chain : (body rest : Piece) → (piece_view body).stage ≡ Going → (piece_view rest).stage ≡ Going
+      → MayChain v r Plain (piece_view body) (piece_view rest)
+  may_chain body rest goes more = record {
     acts = may_act;
     ready = record { kind = refl; awaited = refl; stage = goes };
+    carried = fit_piece body goes;
+    fit = fit_piece rest more;
     books = λ tame. let a = w.wild in absurd (omega arith);
   }
 
-  pub may_spawn : (body rest : Piece) → (piece_view body).stage ≡ Going → MaySpawn v r (piece_view body) (piece_view rest)
-  may_spawn body rest goes = record {
+  pub may_spawn : (body rest : Piece) → (piece_view body).stage ≡ Going → (piece_view rest).stage ≡ Going
+      → MaySpawn v r (piece_view body) (piece_view rest)
+  may_spawn body rest goes more = record {
     cuts = record {
       acts = may_act;
       ready = record { kind = sym w.kind; awaited = refl; stage = goes };
+      carried = fit_piece body goes;
+      fit = fit_piece rest more;
       books = λ tame. let a = w.wild in absurd (omega arith);
     };
     knows = w.knows;
@@ -134,19 +145,19 @@ module _ (p : PlanView) (seats : ℕ) (me : Me (Option Piece) View) (s : Stage) 
     at_work : (r : Running) × IsWorking seats r me.0
     at_work = subst (FitsStage p seats me) works fits
 
-    pub begun_chain : (body rest : Piece) → (piece_view body).stage ≡ Going → (call : ChainCall Piece)
+    pub begun_chain : (body rest : Piece) → (piece_view body).stage ≡ Going → (piece_view rest).stage ≡ Going → (call : ChainCall Piece)
         → ChainBegins piece_view Plain body rest call → FitsStage p seats me (stage.Chains call)
-    begun_chain body rest goes call begins = let r = at_work.0 in let w = at_work.1 in (
+    begun_chain body rest goes more call begins = let r = at_work.0 in let w = at_work.1 in (
       record { known = me; runs = r; body = body; rest = rest },
-      begins p (record { known = me; runs = r; body = body; rest = rest }) refl refl (may_chain seats r me.0 w body rest goes),
+      begins p (record { known = me; runs = r; body = body; rest = rest }) refl refl (may_chain seats r me.0 w body rest goes more),
       w,
     )
 
-    pub begun_spawn : (body rest : Piece) → (piece_view body).stage ≡ Going → (call : SpawnCall Piece)
+    pub begun_spawn : (body rest : Piece) → (piece_view body).stage ≡ Going → (piece_view rest).stage ≡ Going → (call : SpawnCall Piece)
         → SpawnBegins piece_view body rest call → FitsStage p seats me (stage.Spawns call)
-    begun_spawn body rest goes call begins = let r = at_work.0 in let w = at_work.1 in (
+    begun_spawn body rest goes more call begins = let r = at_work.0 in let w = at_work.1 in (
       record { known = me; runs = r; body = body; rest = rest },
-      begins p (record { known = me; runs = r; body = body; rest = rest }) refl refl (may_spawn seats r me.0 w body rest goes),
+      begins p (record { known = me; runs = r; body = body; rest = rest }) refl refl (may_spawn seats r me.0 w body rest goes more),
       w,
     )
 

@@ -1,6 +1,6 @@
 // What a worker does: it starts a vertex, and then chains, spawns or signals, turn by turn.
 
-ghost use Rattle.std.specs.Prelude.{◌≡◌, [], true};
+ghost use Rattle.std.specs.Prelude.{◌≡◌, [], IfSome, true};
 ghost use Rattle.spd_state.specs.Seats.{first_view};
 ghost use Rattle.spd_rule.specs.Shares.{IsOf, share_known};
 ghost use Rattle.spd_fork.specs.declared.stage.Stage.TheVariants as stage;
@@ -29,19 +29,23 @@ pub enum Began {
 }
 
 impl Worker {
-    /// The worker of a new field's share, which makes a region of this piece: vertex 0 is ready.
-    pub fn first(field: &Field<Piece>, share: Share<Piece>, piece: Piece) -> Worker
+    /// The worker of a new field's share, which makes a region of this piece: vertex 0 is ready. `None` where the
+    /// piece is empty.
+    pub fn first(field: &Field<Piece>, share: Share<Piece>, piece: Piece) -> Option<Worker>
         requires of { IsOf field.now share }
         requires new { share_known share ≡ (first_view, []) }
-        ensures { IsAt field.now result }
+        ensures { IfSome result (λ w. IsAt field.now w) }
     {
+        if piece.is_empty() {
+            return None;
+        }
         let mut share = share;
         make(field, &mut share, FinishKind::Plain, piece);
-        Worker {
+        Some(Worker {
             share,
             stage: Stage::Rests,
             seats: 1,
-        }
+        })
     }
 
     /// Whether it runs nothing.
@@ -103,22 +107,22 @@ impl Worker {
         Some(VertexWord::state(see_vertex(field, &mut self.share, vertex)))
     }
 
-    /// Begins a chain by the vertex that it runs: `rest` waits for a finish that `body` begins, which isn't empty.
+    /// Begins a chain by the vertex that it runs: `rest` waits for a finish that `body` begins. Neither may be empty.
     pub fn chain(&mut self, body: Piece, rest: Piece) -> bool
         ensures { StaysAt self.old self.new }
     {
-        if !self.works() || body.is_empty() {
+        if !self.works() || body.is_empty() || rest.is_empty() {
             return false;
         }
         self.stage = Stage::Chains(ChainCall::new(FinishKind::Plain, body, rest));
         true
     }
 
-    /// Begins a spawn by the vertex that it runs: `body`, which isn't empty, may run beside `rest`.
+    /// Begins a spawn by the vertex that it runs: `body` may run beside `rest`. Neither may be empty.
     pub fn spawn(&mut self, body: Piece, rest: Piece) -> bool
         ensures { StaysAt self.old self.new }
     {
-        if !self.works() || body.is_empty() {
+        if !self.works() || body.is_empty() || rest.is_empty() {
             return false;
         }
         self.stage = Stage::Spawns(SpawnCall::new(body, rest));

@@ -45,6 +45,7 @@ impl Job for Sum {
 enum Fault {
     Plan,
     Memory,
+    Piece,
     Seats,
 }
 
@@ -60,7 +61,9 @@ fn sum_of<R: Wait + Threads + Sync>(
     let Ok((field, share)) = Field::new(alloc, plan) else {
         return Err(Fault::Memory);
     };
-    let mut first = Worker::first(&field, share, piece);
+    let Some(mut first) = Worker::first(&field, share, piece) else {
+        return Err(Fault::Piece);
+    };
     let Some(second) = first.split(&field) else {
         return Err(Fault::Seats);
     };
