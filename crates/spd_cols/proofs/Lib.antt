@@ -13,3 +13,4 @@ pub mod Fields
 pub mod Entries
 pub mod LinePieces
 pub mod LoadSteps
+pub mod FilesOfColumns

@@ -45,19 +45,19 @@ module _ (old now : ShelfState) (keeps : KeepsFiles old now) where
       by_file (Some name) may = stays_told (old.file name) (now.file name) bytes (keeps name) may
       by_file None may = tt
 
-  loaded_before : (items : List i.the_data) (columns : List Column) → AreLoaded now.file items columns → AreLoaded old.file items columns
+  pub loaded_before : (items : List i.the_data) (columns : List Column) → AreLoaded now.file items columns → AreLoaded old.file items columns
   loaded_before [] [] are = tt
   loaded_before (what ∷ items) (column ∷ columns) are =
       ((are.0.0, may_before what are.0.0 are.0.1, are.0.2), loaded_before items columns are.1)
   loaded_before [] (column ∷ columns) are = absurd are
   loaded_before (what ∷ items) [] are = absurd are
 
-  refused_before : (what : i.the_data) (fault : DataFault) → IsRefusal now.file what fault → IsRefusal old.file what fault
+  pub refused_before : (what : i.the_data) (fault : DataFault) → IsRefusal now.file what fault → IsRefusal old.file what fault
   refused_before what fault is = (is.0, may_before what is.0 is.1, is.2)
 
 -- ---- counts
 
-rose_before : (a b c : ℕ) → a ≤ b → Rose b c → Rose a c
+pub rose_before : (a b c : ℕ) → a ≤ b → Rose b c → Rose a c
 rose_before a b c le rose = omega (arith, le, rose)
 
 failed_before : (old now new : ShelfState) → ShelfKeepsFaults old now → (what : i.the_data) → FileFailed now new what → FileFailed old new what

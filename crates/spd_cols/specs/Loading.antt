@@ -1,5 +1,5 @@
 -- The columns that a program declares, loaded from a shelf.
-use Rattle.std.specs.Prelude.{◌≡◌, ◌≢◌, ℕ, ◌+◌, ℤ, nat_le, if◌then◌else◌, List, [], ◌∷◌, ◌++◌, flat_map, take, length, Option, None, Some, IfSome, is_some, Result, Ok, Err}
+use Rattle.std.specs.Prelude.{◌≡◌, ◌≢◌, ℕ, ◌+◌, ℤ, nat_le, if◌then◌else◌, List, [], ◌∷◌, ◌++◌, flat_map, take, length, Option, None, Some, IfSome, is_some, option_and_then, slice_get, Result, Ok, Err}
 use Rattle.std.specs.List.{All}
 use Rattle.spd_data.specs.declared.column.Column.{Column}
 use Rattle.spd_data.specs.declared.column.Column.TheVariants as column
@@ -123,3 +123,7 @@ IsItemLoad old new what before after (Err (load.Failed column)) =
 IsItemLoad old new what before after (Err (load.Refused column fault)) =
     (column ≡ length before) × (declared_in what ≡ what ∷ []) × IsRefusal old.file what fault
 IsItemLoad old new what before after (Err load.NoMemory) = Unit {0}
+
+-- the file of the column of a number
+abbrev pub file_of_column : List Item → ℕ → Option (List ℕ)
+file_of_column items column = option_and_then file_in (slice_get (declarations items) column)

@@ -5,6 +5,7 @@ mod csv_columns;
 mod fault;
 mod line_pieces;
 mod loading;
+mod naming;
 mod rows;
 mod value;
 
@@ -12,3 +13,4 @@ pub use csv_columns::{int_column, text_column};
 pub use fault::{DataFault, DataKind, LoadFault};
 pub use line_pieces::lines;
 pub use loading::load;
+pub use naming::file_of_column;

@@ -19,7 +19,7 @@ use std::str;
 const MAX_BYTES: usize = 67_108_864;
 
 /// The file of a column or lines item.
-fn file_of(what: &ItemKind) -> Option<&[u8]>
+pub(crate) fn file_of(what: &ItemKind) -> Option<&[u8]>
     ensures { option_copied result ≡ spec.file_in what.now }
 {
     match what {

@@ -1,15 +1,27 @@
 -- The answers of the top call.
-use Rattle.std.proofs.Common.{◌≡◌, ◌≢◌, ℕ, ◌≤◌, List, [], length, Some, codes, ◌⊎◌, inl, inr, refl, arith}
-use Rattle.spd_io.specs.Shelf.{ShelfState, MayBe, FailedAt}
+use Rattle.std.proofs.Common.{◌≡◌, ◌≢◌, ℕ, ◌≤◌, List, [], length, Some, codes, ◌⊎◌, inl, inr, refl, sym, ap, ◌∙◌, arith}
+use Rattle.spd_io.specs.Shelf.{ShelfState, MayBe, FailedAt, KeepsFiles, ShelfKeepsFaults, ChangesNoOther}
 use Rattle.spd_io.specs.Sink.{SinkState}
 use Rattle.spd_syntax.specs.Limits.{max_text}
-use Rattle.spd_top.specs.declared.words.Command.{Command}
+use Rattle.spd_syntax.specs.declared.tree.Program.{Program}
+use Rattle.spd_syntax.specs.declared.tree.ItemKind.TheVariants as i
+use Rattle.spd_cols.specs.Loading.{declarations, IsNoFileOf}
+use Rattle.spd_cols.proofs.LoadSteps.{loaded_before, refused_before}
+use Rattle.spd_top.specs.declared.words.SerialCommand.{SerialCommand}
+use Rattle.spd_top.specs.declared.words.SerialCommand.TheVariants.{Elide, Check}
 use Rattle.spd_top.specs.declared.building.BuildError.{BuildError}
 use Rattle.spd_top.specs.declared.building.BuildError.TheVariants as errors
-use Rattle.spd_top.specs.Built.{IsRefused, lex_fault, parse_fault, check_fault}
-use Rattle.spd_top.specs.Told.{Bytes, of_file, of_line, lex_word, parse_word, check_word, Told}
-use Rattle.spd_top.specs.Serving.{command_of, operand_of, of_text, RefusesText, Outcome, GetsOrFails, unread, Says, WantsMemory, Tells, took, out_stopped, err_stopped, memory_stopped, Answer, as_defined, out_failed, err_failed, no_memory, no_more_memory}
+use Rattle.spd_top.specs.Built.{TextOutcome, ComesTo, IsRefused, lex_fault, parse_fault, check_fault, passes}
+use Rattle.spd_top.specs.DataFiles.{DataOutcome, columns_loaded, file_unread, file_refused, StopsAt, DataComesTo}
+use Rattle.spd_top.specs.Told.{Bytes, of_file, of_line, lex_word, parse_word, check_word, Told, elided}
+use Rattle.spd_top.specs.Serving.{command_of, operand_of, ReadsText, ReadsData, IsUnread, ChangesNoUntouched, column, of_text, RefusesText, RunsProgram, runs_told, runs_unread, runs_without_room, Outcome, GetsOrFails, unread, Says, WantsMemory, Tells, took, out_stopped, err_stopped, memory_stopped, Answer, as_defined, out_failed, err_failed, no_memory, no_more_memory}
 use Rattle.spd_top.proofs.Putting.{takes_nothing}
+use Rattle.spd_top.proofs.Loads.{stops_before, failed_since}
+
+-- a fault of a text
+abbrev IsFault : TextOutcome → Type 0
+IsFault (passes tree) = ⊥
+IsFault _ = Unit {0}
 
 module _ (words : List Bytes) (shelf shelf' : ShelfState) (out err err' : SinkState) where
   abbrev answers : ℕ → Type 0
@@ -27,21 +39,35 @@ module _ (words : List Bytes) (shelf shelf' : ShelfState) (out err err' : SinkSt
   said_or_wanted status line result outcome other (inl s) = said status line result outcome other s
   said_or_wanted status line result outcome other (inr w) = wanted result w
 
-  -- a program that could not be read
-  pub not_read : (name : Bytes) (result : ℕ) → operand_of words ≡ Some name → FailedAt shelf shelf' name → ((result ≡ 4) × GetsOrFails err err' (of_file name (codes "read failed"))) ⊎ WantsMemory err err' result → answers result
-  not_read name result operand failed (inl s) = rw s.0 (unread name operand failed (takes_nothing out) s.1)
-  not_read name result operand failed (inr w) = wanted result w
+  -- a file that could not be read
+  pub not_read_told : (name : Bytes) (result : ℕ) → IsUnread words shelf shelf' name → ((result ≡ 4) × GetsOrFails err err' (of_file name (codes "read failed"))) ⊎ WantsMemory err err' result → answers result
+  not_read_told name result failed (inl s) = rw s.0 (unread name failed (takes_nothing out) s.1)
+  not_read_told name result failed (inr w) = wanted result w
 
   -- a text that gave no program
-  pub not_had : (command : Command) (name text : Bytes) (error : BuildError) (result : ℕ) → command_of words ≡ Some command → operand_of words ≡ Some name → MayBe (shelf.file name) text
+  pub not_had : (command : SerialCommand) (name text : Bytes) (error : BuildError) (result : ℕ) → command_of words ≡ Some command → operand_of words ≡ Some name → MayBe (shelf.file name) text
       → length text ≤ max_text → IsRefused text error → RefusesText name error err err' result → answers result
-  not_had command name text (errors.Lex fault) result w o may within is said =
-      said_or_wanted 1 (of_line name fault.line (lex_word fault.kind)) result (of_text command name text (lex_fault fault) 1 [] _ w o may within is refl) (λ e. omega arith) said
-  not_had command name text (errors.Parse fault) result w o may within is said =
-      said_or_wanted 1 (of_line name fault.line (parse_word fault.kind)) result (of_text command name text (parse_fault fault) 1 [] _ w o may within is refl) (λ e. omega arith) said
-  not_had command name text (errors.Check fault) result w o may within is said =
-      said_or_wanted 1 (of_line name fault.line (check_word fault.kind)) result (of_text command name text (check_fault fault) 1 [] _ w o may within is refl) (λ e. omega arith) said
-  not_had command name text errors.NoMemory result w o may within is said = wanted result said
+  not_had command name text error result w o may within is said = by_error error is said
+    where
+      reads : (outcome : TextOutcome) → ComesTo text outcome → ReadsText words shelf.file command name outcome
+      reads outcome comes = record { command_is = w; operand_is = o; text = text; may = may; within = within; comes = comes }
+
+      -- no data file is read
+      no_data : (command : SerialCommand) (outcome : TextOutcome) → IsFault outcome → ReadsData shelf.file command outcome (columns_loaded [])
+      no_data Elide (lex_fault fault) f = refl
+      no_data Elide (parse_fault fault) f = refl
+      no_data Elide (check_fault fault) f = refl
+      no_data Elide (passes tree) f = absurd f
+      no_data Check outcome f = refl
+
+      by_error : (error : BuildError) → IsRefused text error → RefusesText name error err err' result → answers result
+      by_error (errors.Lex fault) is said = said_or_wanted 1 (of_line name fault.line (lex_word fault.kind)) result
+          (of_text command name (lex_fault fault) (columns_loaded []) 1 [] _ (reads (lex_fault fault) is) (no_data command (lex_fault fault) tt) refl) (λ e. omega arith) said
+      by_error (errors.Parse fault) is said = said_or_wanted 1 (of_line name fault.line (parse_word fault.kind)) result
+          (of_text command name (parse_fault fault) (columns_loaded []) 1 [] _ (reads (parse_fault fault) is) (no_data command (parse_fault fault) tt) refl) (λ e. omega arith) said
+      by_error (errors.Check fault) is said = said_or_wanted 1 (of_line name fault.line (check_word fault.kind)) result
+          (of_text command name (check_fault fault) (columns_loaded []) 1 [] _ (reads (check_fault fault) is) (no_data command (check_fault fault) tt) refl) (λ e. omega arith) said
+      by_error errors.NoMemory is said = wanted result said
 
 -- what a command tells of a program
 pub has_told : (words : List Bytes) (shelf shelf' : ShelfState) (t : Told) (out out' err err' : SinkState) (result : ℕ) → Outcome words shelf.file t.status t.bytes t.line → t.status ≢ 4
@@ -50,3 +76,42 @@ has_told words shelf shelf' t out out' err err' result outcome other (took got t
 has_told words shelf shelf' t out out' err err' result outcome other (out_stopped fails told) = out_failed t.status t.bytes t.line outcome fails told
 has_told words shelf shelf' t out out' err err' result outcome other (err_stopped got fails) = err_failed t.status t.bytes t.line outcome other got fails
 has_told words shelf shelf' t out out' err err' result outcome other (memory_stopped front told) = no_more_memory t.status t.bytes t.line outcome front told
+
+tells_other : (t : Told) (out out' err err' : SinkState) (result : ℕ) → t.status ≢ 4 → Tells t out out' err err' result → result ≢ 4
+tells_other t out out' err err' result other (took got told) e = other e
+tells_other t out out' err err' result other (out_stopped fails told) e = absurd (omega arith)
+tells_other t out out' err err' result other (err_stopped got fails) e = absurd (omega arith)
+tells_other t out out' err err' result other (memory_stopped front told) e = absurd (omega arith)
+
+-- ---- a run over a shelf that has been read before
+
+module _ (words : List Bytes) (name : Bytes) (tree : Program) (old now new : ShelfState) (files : KeepsFiles old now) (counts : ShelfKeepsFaults old now)
+    (reads : ReadsText words old.file Elide name (passes tree)) where
+  -- what a shelf told then, it had told before
+  data_before : (came : DataOutcome) → DataComesTo now.file (declarations tree.items) came → (elided name tree came).status ≢ 4
+      → DataComesTo old.file (declarations tree.items) came
+  data_before (columns_loaded columns) h other = loaded_before old now files (declarations tree.items) columns h
+  data_before (file_unread file) h other = absurd (other refl)
+  data_before (file_refused file fault) h other =
+      (h.0, stops_before old now files (declarations tree.items) h.0 file h.1, refused_before old now files h.0 fault h.2)
+
+  not_loaded : (what : i.the_data) (file : Bytes) → StopsAt now.file (declarations tree.items) what file → FailedAt now new file → IsUnread words old new file
+  not_loaded what file stops failed =
+      column name file tree what reads (stops_before old now files (declarations tree.items) what file stops) (failed_since old now new file counts failed)
+
+  pub ran : (out out' err err' : SinkState) (result : ℕ) → RunsProgram name tree now new out out' err err' result → Answer words old new out out' err err' result
+  ran out out' err err' result (runs_told came comes other tells) =
+      let t = elided name tree came in
+      has_told words old new t out out' err err' result (of_text Elide name (passes tree) came t.status t.bytes t.line reads (data_before came comes other) refl) other tells
+  ran out out' err err' result (runs_unread what file stops failed same four line) =
+      rw (sym same, four) (unread file (not_loaded what file stops failed) (takes_nothing out) line)
+  ran out out' err err' result (runs_without_room same wanted) = rw (sym same, wanted.0) (no_memory (takes_nothing out) wanted.1)
+
+  pub ran_unread : (out out' err err' : SinkState) (result : ℕ) → RunsProgram name tree now new out out' err err' result → result ≡ 4 → (file : Bytes) × IsUnread words old new file
+  ran_unread out out' err err' result (runs_told came comes other tells) four = absurd (tells_other (elided name tree came) out out' err err' result other tells four)
+  ran_unread out out' err err' result (runs_unread what file stops failed same is line) four = (file, not_loaded what file stops failed)
+  ran_unread out out' err err' result (runs_without_room same wanted) four = let is = wanted.0 in absurd (omega arith)
+
+  pub ran_others : ((other : Bytes) → IsNoFileOf other (declarations tree.items) → new.faults other ≡ now.faults other) → ChangesNoOther old now name → ChangesNoUntouched words old new
+  ran_others later first other untouched =
+      later other (untouched.columns name tree reads) ∙ first other (λ e. untouched.operand (reads.operand_is ∙ ap Some (sym e)))

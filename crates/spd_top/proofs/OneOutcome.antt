@@ -1,5 +1,5 @@
 -- A text comes to one outcome, and a command line over files that are told has one.
-use Rattle.std.proofs.Common.{◌≡◌, ◌≢◌, ◌∙◌, ℕ, ◌≤◌, List, [], length, Ok, Err, Result, Some, Option, refl, sym, ap, subst, arith}
+use Rattle.std.proofs.Common.{◌≡◌, ◌≢◌, ◌∙◌, ℕ, ◌≤◌, List, [], length, Ok, Err, Result, Some, None, Option, refl, sym, ap, subst, arith}
 use Rattle.spd_io.specs.Shelf.{FileTold, Untold, Missing, Holds, MayBe, MayExceed}
 use Rattle.spd_syntax.specs.declared.lexing.LexFault.{LexFault}
 use Rattle.spd_syntax.specs.declared.fault.ParseFault.{ParseFault}
@@ -13,12 +13,17 @@ use Rattle.spd_syntax.specs.Faults.{IsSpelled, IsFirstFault}
 use Rattle.spd_syntax.proofs.OneToken.{program_ahead}
 use Rattle.spd_parse.proofs.Once.{once}
 use Rattle.spd_check.specs.declared.faults.CheckFault.{CheckFault}
-use Rattle.spd_check.specs.Faults.{Faults, first_fault}
+use Rattle.spd_check.specs.Faults.{first_fault}
 use Rattle.spd_check.specs.Checks.{faults_of}
-use Rattle.spd_top.specs.declared.words.Command.{Command}
+use Rattle.spd_cols.specs.Loading.{declarations}
+use Rattle.spd_top.specs.declared.words.SerialCommand.{SerialCommand}
+use Rattle.spd_top.specs.declared.words.SerialCommand.TheVariants.{Elide, Check}
 use Rattle.spd_top.specs.Built.{IsProgram, IsFaulty, TextOutcome, lex_fault, parse_fault, check_fault, passes, ComesTo}
-use Rattle.spd_top.specs.Told.{Bytes, Told, told_of}
-use Rattle.spd_top.specs.Serving.{refused, missing, too_long, of_text, SameAnswer, HasOneOutcome}
+use Rattle.spd_top.specs.DataFiles.{DataOutcome}
+use Rattle.spd_top.specs.Told.{Bytes, of_file, Told, told_of}
+use Rattle.spd_top.specs.Serving.{command_of, operand_of, ReadsText, ReadsData, Outcome, refused, missing, too_long, of_text, SameAnswer, AreAllTold, HasOneOutcome}
+use Rattle.spd_top.proofs.Asking.{has_command}
+use Rattle.spd_top.proofs.Loads.{data_comes_to_one}
 use Rattle.spd_top.proofs.OneFault.{one_first_fault, spelled_has_no_fault}
 
 -- ---- one outcome of a text
@@ -98,32 +103,62 @@ not_missing file text e b = subst (λ f. MayBe f text) e b
 not_exceeding : (file : FileTold) → file ≡ Missing → MayExceed file max_text → ⊥
 not_exceeding file e b = subst (λ f. MayExceed f max_text) e b
 
-module _ (words : List Bytes) (file : Bytes → FileTold) where
-  pub has_one_outcome : HasOneOutcome words file
-  has_one_outcome told s s' z z' l l' (refused e) (refused d) = (refl, refl, refl)
-  has_one_outcome told s s' z z' l l' (refused e) (missing n d m) = absurd cc
-  has_one_outcome told s s' z z' l l' (refused e) (too_long n d m) = absurd cc
-  has_one_outcome told s s' z z' l l' (refused e) (of_text k n x o s2 z2 l2 w d m h c t) = absurd cc
-  has_one_outcome told s s' z z' l l' (missing n d m) (refused e) = absurd cc
-  has_one_outcome told s s' z z' l l' (missing n d m) (missing n' d' m') = let same : n ≡ n' = cc in (refl, refl, rw same refl)
-  has_one_outcome told s s' z z' l l' (missing n d m) (too_long n' d' m') =
-      let same : n ≡ n' = cc in absurd (not_exceeding (file n) m (subst (λ (y : Bytes). MayExceed (file y) max_text) (sym same) m'))
-  has_one_outcome told s s' z z' l l' (missing n d m) (of_text k' n' x o s2 z2 l2 w' d' m' h c t) =
-      let same : n ≡ n' = cc in absurd (not_missing (file n) x m (subst (λ (y : Bytes). MayBe (file y) x) (sym same) m'))
-  has_one_outcome told s s' z z' l l' (too_long n d m) (refused e) = absurd cc
-  has_one_outcome told s s' z z' l l' (too_long n d m) (missing n' d' m') =
-      let same : n ≡ n' = cc in absurd (not_exceeding (file n') m' (subst (λ (y : Bytes). MayExceed (file y) max_text) same m))
-  has_one_outcome told s s' z z' l l' (too_long n d m) (too_long n' d' m') = let same : n ≡ n' = cc in (refl, refl, rw same refl)
-  has_one_outcome told s s' z z' l l' (too_long n d m) (of_text k' n' x o s2 z2 l2 w' d' m' h c t) =
-      let same : n ≡ n' = cc in absurd (not_both (file n) x (told n d) m (subst (λ (y : Bytes). MayBe (file y) x) (sym same) m') h)
-  has_one_outcome told s s' z z' l l' (of_text k n x o s2 z2 l2 w d m h c t) (refused e) = absurd cc
-  has_one_outcome told s s' z z' l l' (of_text k n x o s2 z2 l2 w d m h c t) (missing n' d' m') =
-      let same : n ≡ n' = cc in absurd (not_missing (file n') x m' (subst (λ (y : Bytes). MayBe (file y) x) same m))
-  has_one_outcome told s s' z z' l l' (of_text k n x o s2 z2 l2 w d m h c t) (too_long n' d' m') =
-      let same : n ≡ n' = cc in absurd (not_both (file n') x (told n' d') m' (subst (λ (y : Bytes). MayBe (file y) x) same m) h)
-  has_one_outcome told s s' z z' l l' (of_text k n x o s2 z2 l2 w d m h c t) (of_text k' n' x' o' s3 z3 l3 w' d' m' h' c' t') =
-      let same : n ≡ n' = cc in
-      let texts : x ≡ x' = one_text (file n) x x' (told n d) m (subst (λ (y : Bytes). MayBe (file y) x') (sym same) m') in
-      let one : o ≡ o' = comes_to_one x o o' c (subst (λ (y : Bytes). ComesTo y o') (sym texts) c') in
-      let commands : k ≡ k' = cc in
-      same_told (told_of k n o) (told_of k' n' o') s2 s3 z2 z3 l2 l3 (rw (commands, same, one) refl) t t'
+-- two data outcomes of the same text
+module _ (words : List Bytes) (file : Bytes → FileTold) (told : AreAllTold words file) where
+  same_data : (k : SerialCommand) (n : Bytes) (o : TextOutcome) (d d' : DataOutcome) → ReadsText words file k n o → ReadsData file k o d → ReadsData file k o d' → d ≡ d'
+  same_data Elide n (passes tree) d d' reads x y = data_comes_to_one file (declarations tree.items) (told.columns n tree reads) d d' x y
+  same_data Elide n (lex_fault f) d d' reads x y = x ∙ sym y
+  same_data Elide n (parse_fault f) d d' reads x y = x ∙ sym y
+  same_data Elide n (check_fault f) d d' reads x y = x ∙ sym y
+  same_data Check n o d d' reads x y = x ∙ sym y
+
+  same_name : (n n' : Bytes) → operand_of words ≡ Some n → operand_of words ≡ Some n' → n ≡ n'
+  same_name n n' e d = let same : ◌≡◌ {A = Option Bytes} (Some n) (Some n') = sym e ∙ d in cc
+
+  same_command : (k k' : SerialCommand) → command_of words ≡ Some k → command_of words ≡ Some k' → k ≡ k'
+  same_command k k' e d = let same : ◌≡◌ {A = Option SerialCommand} (Some k) (Some k') = sym e ∙ d in cc
+
+  not_refused : (n : Bytes) → command_of words ≡ None → operand_of words ≡ Some n → ⊥
+  not_refused n e d = has_command words n e d
+
+  missing_no_text : (n n' : Bytes) (k : SerialCommand) (o : TextOutcome) → operand_of words ≡ Some n → file n ≡ Missing → ReadsText words file k n' o → ⊥
+  missing_no_text n n' k o e m reads =
+      not_missing (file n') reads.text (ap file (sym (same_name n n' e reads.operand_is)) ∙ m) reads.may
+
+  long_no_text : (n n' : Bytes) (k : SerialCommand) (o : TextOutcome) → operand_of words ≡ Some n → MayExceed (file n) max_text → ReadsText words file k n' o → ⊥
+  long_no_text n n' k o e m reads =
+      not_both (file n') reads.text (told.operand n' reads.operand_is) (subst (λ (y : Bytes). MayExceed (file y) max_text) (same_name n n' e reads.operand_is) m) reads.may reads.within
+
+  missing_not_long : (n n' : Bytes) → operand_of words ≡ Some n → operand_of words ≡ Some n' → file n ≡ Missing → MayExceed (file n') max_text → ⊥
+  missing_not_long n n' e d m x = not_exceeding (file n') (ap file (sym (same_name n n' e d)) ∙ m) x
+
+  same_line : (n n' what : Bytes) → operand_of words ≡ Some n → operand_of words ≡ Some n' → of_file n what ≡ of_file n' what
+  same_line n n' what e d = ap (λ (y : Bytes). of_file y what) (same_name n n' e d)
+
+  pub one_outcome : (s s' : ℕ) (z z' l l' : Bytes) → Outcome words file s z l → Outcome words file s' z' l' → SameAnswer s s' z z' l l'
+  one_outcome s s' z z' l l' (refused e) (refused d) = (refl, refl, refl)
+  one_outcome s s' z z' l l' (refused e) (missing n d m) = absurd (not_refused n e d)
+  one_outcome s s' z z' l l' (refused e) (too_long n d m) = absurd (not_refused n e d)
+  one_outcome s s' z z' l l' (refused e) (of_text k n o came s2 z2 l2 r d t) = absurd (not_refused n e r.operand_is)
+  one_outcome s s' z z' l l' (missing n d m) (refused e) = absurd (not_refused n e d)
+  one_outcome s s' z z' l l' (missing n d m) (missing n' d' m') = (refl, refl, same_line n n' _ d d')
+  one_outcome s s' z z' l l' (missing n d m) (too_long n' d' m') = absurd (missing_not_long n n' d d' m m')
+  one_outcome s s' z z' l l' (missing n d m) (of_text k n' o came s2 z2 l2 r d' t) = absurd (missing_no_text n n' k o d m r)
+  one_outcome s s' z z' l l' (too_long n d m) (refused e) = absurd (not_refused n e d)
+  one_outcome s s' z z' l l' (too_long n d m) (missing n' d' m') = absurd (missing_not_long n' n d' d m' m)
+  one_outcome s s' z z' l l' (too_long n d m) (too_long n' d' m') = (refl, refl, same_line n n' _ d d')
+  one_outcome s s' z z' l l' (too_long n d m) (of_text k n' o came s2 z2 l2 r d' t) = absurd (long_no_text n n' k o d m r)
+  one_outcome s s' z z' l l' (of_text k n o came s2 z2 l2 r d t) (refused e) = absurd (not_refused n e r.operand_is)
+  one_outcome s s' z z' l l' (of_text k n o came s2 z2 l2 r d t) (missing n' d' m') = absurd (missing_no_text n' n k o d' m' r)
+  one_outcome s s' z z' l l' (of_text k n o came s2 z2 l2 r d t) (too_long n' d' m') = absurd (long_no_text n' n k o d' m' r)
+  one_outcome s s' z z' l l' (of_text k n o came s2 z2 l2 r d t) (of_text k' n' o' came' s3 z3 l3 r' d' t') =
+      let names : n ≡ n' = same_name n n' r.operand_is r'.operand_is in
+      let commands : k ≡ k' = same_command k k' r.command_is r'.command_is in
+      let texts : r.text ≡ r'.text = one_text (file n) r.text r'.text (told.operand n r.operand_is) r.may (subst (λ (y : Bytes). MayBe (file y) r'.text) (sym names) r'.may) in
+      let one : o ≡ o' = comes_to_one r.text o o' r.comes (subst (λ (y : Bytes). ComesTo y o') (sym texts) r'.comes) in
+      let read' : ReadsData file k o came' = subst (λ (w : TextOutcome). ReadsData file k w came') (sym one) (subst (λ (w : SerialCommand). ReadsData file w o' came') (sym commands) d') in
+      let datas : came ≡ came' = same_data k n o came came' r d read' in
+      same_told (told_of k n o came) (told_of k' n' o' came') s2 s3 z2 z3 l2 l3 (rw (commands, names, one, datas) refl) t t'
+
+pub has_one_outcome : (words : List Bytes) (file : Bytes → FileTold) → HasOneOutcome words file
+has_one_outcome words file told = one_outcome words file told

@@ -1,5 +1,5 @@
 -- What a command has put, told of sinks.
-use Rattle.std.proofs.Common.{◌≡◌, ◌≢◌, ℕ, List, [], ◌++◌, take, Result, Ok, Err, OnOk, OnErr, IfErr, inl, inr, refl, sym}
+use Rattle.std.proofs.Common.{◌≡◌, ◌≢◌, ℕ, List, [], take, Result, Ok, Err, OnOk, OnErr, IfErr, inl, inr, refl, sym}
 use Rattle.std.proofs.lemmas.List.{append-nil}
 use Rattle.spd_io.specs.declared.sink.Stopped.{Stopped}
 use Rattle.spd_io.specs.Sink.{SinkState, Gets, GetsFront, Failed, SameFaults}

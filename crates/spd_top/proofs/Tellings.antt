@@ -1,25 +1,28 @@
 -- What a command tells of a program that passes the checks, by what its run or its text came to.
-use Rattle.std.proofs.Common.{◌≡◌, ◌≢◌, ◌∙◌, ℕ, ℤ, List, [], Bool, true, false, if◌then◌else◌, ◌⊎◌, inl, inr, refl, sym, ap, subst, codes}
-use Rattle.std.proofs.lemmas.Bool.Decides.{eqb_tells}
+use Rattle.std.proofs.Common.{◌≡◌, ◌≢◌, ◌∙◌, ℕ, ℤ, List, [], Some, Err, ◌⊎◌, inl, inr, refl, sym, ap, subst, arith}
+use Rattle.spd_io.specs.Shelf.{ShelfState}
 use Rattle.spd_io.specs.Sink.{SinkState, Gets, GetsFront, Failed, SameFaults}
+use Rattle.spd_data.specs.declared.column.Column.{Column}
 use Rattle.spd_syntax.specs.declared.tree.Program.{Program}
 use Rattle.spd_meaning.specs.Eval as eval
 use Rattle.spd_meaning.specs.Eval.{Eval, Fell, Back, Fault}
 use Rattle.spd_meaning.specs.Names.{Entry}
 use Rattle.spd_meaning.specs.Programs.{main_meaning}
 use Rattle.spd_meaning.specs.Printed.{printed}
-use Rattle.spd_data.specs.declared.column.Column.{Column}
 use Rattle.spd_code.specs.declared.tree.CodeTree.{CodeTree}
 use Rattle.spd_code.specs.Alike.{valued, valued_end}
-use Rattle.spd_level.specs.Columns.{context_of}
+use Rattle.spd_cols.specs.declared.fault.LoadFault.{LoadFault}
+use Rattle.spd_cols.specs.declared.fault.LoadFault.TheVariants as load
+use Rattle.spd_cols.specs.Loading.{file_in, declarations, IsLoad}
+use Rattle.spd_cols.proofs.FilesOfColumns.{next_is_named}
 use Rattle.spd_check.specs.Checked.{MeansItself}
+use Rattle.spd_level.specs.Columns.{columns_in, Fits, context_of}
+use Rattle.spd_level.proofs.Reading.{fitting}
 use Rattle.spd_spine.specs.Walk.{main_eval, EndsSo}
 use Rattle.spd_spine.specs.declared.turn.End.TheVariants as end
-use Rattle.spd_top.specs.declared.words.Command.{Command}
-use Rattle.spd_top.specs.declared.words.Command.TheVariants.{Elide, Check}
-use Rattle.spd_top.specs.Built.{TextOutcome, lex_fault, parse_fault, check_fault, passes}
-use Rattle.spd_top.specs.Told.{Bytes, of_file, of_fault, Told, refusal, end_told, run_told, has_columns, no_columns, elided, checked, program_told, told_of}
-use Rattle.spd_top.specs.Serving.{Says, WantsMemory, GetsOrFails, write_failed, Tells, took, out_stopped, err_stopped, memory_stopped}
+use Rattle.spd_top.specs.DataFiles.{columns_loaded, file_refused}
+use Rattle.spd_top.specs.Told.{Bytes, of_line, of_fault, data_word, Told, end_told, run_told, elided}
+use Rattle.spd_top.specs.Serving.{Says, WantsMemory, GetsOrFails, write_failed, Tells, took, out_stopped, err_stopped, memory_stopped, RefusesData, RunsProgram, runs_told, runs_unread, runs_without_room}
 use Rattle.spd_top.proofs.Putting.{takes_nothing, whole_is_front}
 
 -- ---- no status of a text is that of a file that could not be read
@@ -29,30 +32,32 @@ end_status name (Fell vars) bytes h = cc
 end_status name (Back value) bytes h = cc
 end_status name (Fault code) bytes h = cc
 
-elided_status : (name : Bytes) (tree : Program) → (elided name tree).status ≢ 4
-elided_status name tree = by_columns (has_columns tree.items)
-  where
-    by_columns : (has : Bool) → (if has then refusal (of_file name (codes "NotBuilt")) else run_told name (main_meaning tree.items no_columns)).status ≢ 4
-    by_columns true h = cc
-    by_columns false h = end_status name (main_meaning tree.items no_columns).end (printed (main_meaning tree.items no_columns).given) h
-
-pub told_status : (command : Command) (name : Bytes) (outcome : TextOutcome) → (told_of command name outcome).status ≢ 4
-told_status command name (lex_fault fault) h = cc
-told_status command name (parse_fault fault) h = cc
-told_status command name (check_fault fault) h = cc
-told_status Elide name (passes tree) h = elided_status name tree h
-told_status Check name (passes tree) h = cc
+pub run_status : {A : Type 0} (name : Bytes) (a : Eval A) → (run_told name a).status ≢ 4
+run_status name a h = end_status name a.end (printed a.given) h
 
 -- ---- a refusal
 
-pub refusal_told : (line : Bytes) (out err err' : SinkState) (result : ℕ) → Says 1 err err' line result ⊎ WantsMemory err err' result → Tells (refusal line) out out err err' result
-refusal_told line out err err' result (inl (inl s)) = rw s.0 (took (takes_nothing out) s.1)
-refusal_told line out err err' result (inl (inr s)) = rw s.0 (err_stopped (takes_nothing out) s.1)
-refusal_told line out err err' result (inr w) = rw w.0 (memory_stopped (whole_is_front out out [] (takes_nothing out).0, refl) w.1)
+-- a status that is told by its line alone
+pub line_told : (status : ℕ) (line : Bytes) (out err err' : SinkState) (result : ℕ) → Says status err err' line result ⊎ WantsMemory err err' result
+    → Tells (record { status = status; bytes = []; line = line }) out out err err' result
+line_told status line out err err' result (inl (inl s)) = rw s.0 (took (takes_nothing out) s.1)
+line_told status line out err err' result (inl (inr s)) = rw s.0 (err_stopped (takes_nothing out) s.1)
+line_told status line out err err' result (inr w) = rw w.0 (memory_stopped (whole_is_front out out [] (takes_nothing out).0, refl) w.1)
 
-pub not_built : (name : Bytes) (program : Program) (out err err' : SinkState) (result : ℕ) → has_columns program.items ≡ true → Says 1 err err' (of_file name (codes "NotBuilt")) result ⊎ WantsMemory err err' result
-    → Tells (elided name program) out out err err' result
-not_built name program out err err' result has said = rw has (refusal_told (of_file name (codes "NotBuilt")) out err err' result said)
+-- why a program has no columns
+module _ (name : Bytes) (tree : Program) (old new : ShelfState) (out err err' : SinkState) (result : ℕ) where
+  pub not_loaded : (fault : LoadFault) → IsLoad old new (declarations tree.items) (Err fault) → RefusesData tree fault err err' result
+      → RunsProgram name tree old new out out err err' result
+  not_loaded (load.Failed number) is (inl s) =
+      let named : file_in is.0 ≡ Some s.0 = sym (next_is_named old.file tree.items number is.0 is.1) ∙ s.1 in
+      runs_unread is.0 s.0 record { number = number; next = is.1; named = named } (rw named at is.2) refl s.2 s.3
+  not_loaded (load.Failed number) is (inr w) = runs_without_room refl w
+  not_loaded (load.Refused number fault) is (inl s) =
+      let named : file_in is.0 ≡ Some s.0 = sym (next_is_named old.file tree.items number is.0 is.1) ∙ s.1 in
+      runs_told (file_refused s.0 fault) (is.0, record { number = number; next = is.1; named = named }, is.2) (λ e. omega arith)
+      (line_told 6 (of_line s.0 fault.row (data_word fault.kind)) out err err' result (inl s.2))
+  not_loaded (load.Refused number fault) is (inr w) = runs_without_room refl w
+  not_loaded load.NoMemory is w = runs_without_room refl w
 
 -- ---- a run
 
@@ -80,22 +85,25 @@ valued_told name a = by_end a.end
     by_end (Back value) = refl
     by_end (Fault code) = refl
 
-module _ (name : Bytes) (program : Program) (tree : CodeTree) (columns : List Column) (empty : columns ≡ []) (means : MeansItself program.items tree) (none : has_columns program.items ≡ false) where
+module _ (name : Bytes) (program : Program) (tree : CodeTree) (columns : List Column) (means : MeansItself program.items tree) (fits : Fits program.items columns) where
   abbrev main : Eval ℤ
   main = main_eval (context_of tree columns)
 
-  told_is : run_told name main ≡ elided name program
-  told_is =
-      let nothing : main ≡ main_eval (context_of tree []) = ap (λ (cs : List Column). main_eval (context_of tree cs)) empty in
-      let same : main ≡ valued (main_meaning program.items no_columns) = nothing ∙ means (context_of tree []) no_columns refl (λ c. refl) in
-      ap (run_told name) same ∙ valued_told name (main_meaning program.items no_columns) ∙ rw none refl
+  abbrev is_told : Told
+  is_told = elided name program (columns_loaded columns)
 
-  pub runs_done : (out out' err : SinkState) → Gets out out' (printed main.given) → SameFaults out out' → EndsSo end.Done main.end → Tells (elided name program) out out' err err 0
+  told_is : run_told name main ≡ is_told
+  told_is =
+      let by_name = columns_in program.items columns in
+      let same : main ≡ valued (main_meaning program.items by_name) = means (context_of tree columns) by_name refl (fitting program.items columns tree fits) in
+      ap (run_told name) same ∙ valued_told name (main_meaning program.items by_name)
+
+  pub runs_done : (out out' err : SinkState) → Gets out out' (printed main.given) → SameFaults out out' → EndsSo end.Done main.end → Tells is_told out out' err err 0
   runs_done out out' err all kept ends =
       subst (λ (t : Told). Tells t out out' err err 0) (sym (ended_done name main.end (printed main.given) ends) ∙ told_is) (took (all, kept) (takes_nothing err))
 
   pub runs_to_fault : (code : ℕ) (out out' err err' : SinkState) (result : ℕ) → Gets out out' (printed main.given) → SameFaults out out' → EndsSo (end.Fault code) main.end
-      → Says 3 err err' (of_fault name code) result ⊎ WantsMemory err err' result → Tells (elided name program) out out' err err' result
+      → Says 3 err err' (of_fault name code) result ⊎ WantsMemory err err' result → Tells is_told out out' err err' result
   runs_to_fault code out out' err err' result all kept ends said =
       subst (λ (t : Told). Tells t out out' err err' result) (sym (ended_fault name code main.end (printed main.given) ends) ∙ told_is) (by_said said)
     where
@@ -104,10 +112,10 @@ module _ (name : Bytes) (program : Program) (tree : CodeTree) (columns : List Co
       by_said (inl (inr s)) = rw s.0 (err_stopped (all, kept) s.1)
       by_said (inr w) = rw w.0 (memory_stopped (whole_is_front out out' (printed main.given) all, kept) w.1)
 
-  pub runs_stopped : (out out' err err' : SinkState) → Failed out out' → GetsFront out out' (printed main.given) → GetsOrFails err err' write_failed → Tells (elided name program) out out' err err' 5
+  pub runs_stopped : (out out' err err' : SinkState) → Failed out out' → GetsFront out out' (printed main.given) → GetsOrFails err err' write_failed → Tells is_told out out' err err' 5
   runs_stopped out out' err err' cause front told =
       subst (λ (t : Told). Tells t out out' err err' 5) told_is (out_stopped (cause, rw (end_bytes name main.end (printed main.given)) front) told)
 
-  pub runs_out_of_memory : (out out' err err' : SinkState) (result : ℕ) → SameFaults out out' → GetsFront out out' (printed main.given) → WantsMemory err err' result → Tells (elided name program) out out' err err' result
+  pub runs_out_of_memory : (out out' err err' : SinkState) (result : ℕ) → SameFaults out out' → GetsFront out out' (printed main.given) → WantsMemory err err' result → Tells is_told out out' err err' result
   runs_out_of_memory out out' err err' result kept front w =
       rw w.0 (subst (λ (t : Told). Tells t out out' err err' 7) told_is (memory_stopped (rw (end_bytes name main.end (printed main.given)) front, kept) w.1))

@@ -1,4 +1,5 @@
 pub mod Built
+pub mod DataFiles
 pub mod Told
 pub mod Serving
 pub mod Command

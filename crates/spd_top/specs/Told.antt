@@ -1,7 +1,6 @@
 -- What a command tells of a text: a status, the bytes for `out` and the line for `err`.
-use Rattle.std.specs.Prelude.{ℕ, ◌/◌, ◌%◌, ◌==◌, if◌then◌else◌, true, false, Bool, List, [], ◌∷◌, ◌++◌, ℤ, pos, None, codes}
+use Rattle.std.specs.Prelude.{ℕ, ◌/◌, ◌%◌, ◌==◌, if◌then◌else◌, List, [], ◌∷◌, ◌++◌, codes}
 use Rattle.std.specs.Fmt.{decimal}
-use Rattle.spd_syntax.specs.declared.tree.Item.{Item}
 use Rattle.spd_syntax.specs.declared.tree.Program.{Program}
 use Rattle.spd_syntax.specs.declared.lexing.LexKind.{LexKind}
 use Rattle.spd_syntax.specs.declared.lexing.LexKind.TheVariants as lex
@@ -10,15 +9,17 @@ use Rattle.spd_syntax.specs.declared.fault.ParseKind.TheVariants as parse
 use Rattle.spd_canonical.specs.Layout.{canonical_text}
 use Rattle.spd_check.specs.declared.faults.CheckKind.{CheckKind}
 use Rattle.spd_check.specs.declared.faults.CheckKind.TheVariants as check
+use Rattle.spd_cols.specs.declared.fault.DataKind.{DataKind}
+use Rattle.spd_cols.specs.declared.fault.DataKind.TheVariants as of_data
+use Rattle.spd_level.specs.Columns.{columns_in}
 use Rattle.spd_meaning.specs.Eval as eval
 use Rattle.spd_meaning.specs.Eval.{Eval}
-use Rattle.spd_meaning.specs.Values.{ColumnView}
-use Rattle.spd_meaning.specs.Names.{Name, Names}
-use Rattle.spd_meaning.specs.Programs.{main_meaning, columns_of}
+use Rattle.spd_meaning.specs.Programs.{main_meaning}
 use Rattle.spd_meaning.specs.Printed.{printed}
-use Rattle.spd_top.specs.declared.words.Command.{Command}
-use Rattle.spd_top.specs.declared.words.Command.TheVariants.{Elide, Check}
+use Rattle.spd_top.specs.declared.words.SerialCommand.{SerialCommand}
+use Rattle.spd_top.specs.declared.words.SerialCommand.TheVariants.{Elide, Check}
 use Rattle.spd_top.specs.Built.{TextOutcome, lex_fault, parse_fault, check_fault, passes}
+use Rattle.spd_top.specs.DataFiles.{DataOutcome, columns_loaded, file_unread, file_refused}
 
 abbrev pub Bytes : Type 0
 Bytes = List ℕ
@@ -32,7 +33,7 @@ end_of_line = 10 ∷ []
 abbrev pub of_file : Bytes → Bytes → Bytes
 of_file name what = codes "spd: " ++ name ++ codes ": " ++ what ++ end_of_line
 
--- what is told of a line of a file
+-- what is told of a line of a file, or of a record
 abbrev pub of_line : Bytes → ℕ → Bytes → Bytes
 of_line name line what = codes "spd: " ++ name ++ codes ":" ++ decimal line ++ codes ": " ++ what ++ end_of_line
 
@@ -63,6 +64,14 @@ check_word check.NoMain = codes "NoMain"
 check_word check.NoReturn = codes "NoReturn"
 check_word check.NoMemory = codes "NoMemory"
 
+abbrev pub data_word : DataKind → Bytes
+data_word of_data.TooLong = codes "TooLong"
+data_word of_data.NoField = codes "NoField"
+data_word of_data.Ragged = codes "Ragged"
+data_word of_data.TooMany = codes "TooMany"
+data_word of_data.NotInt = codes "NotInt"
+data_word of_data.NoMemory = codes "NoMemory"
+
 -- the word for the kind of a fault of a run
 abbrev pub fault_word : ℕ → Bytes
 fault_word kind = if kind == 1 then codes "division by zero" else if kind == 2 then codes "index out of range" else codes "calls too deep"
@@ -91,33 +100,23 @@ end_told name _ bytes = record { status = 0; bytes = bytes; line = [] }
 abbrev pub run_told : {A : Type 0} → Bytes → Eval A → Told
 run_told name a = end_told name a.end (printed a.given)
 
-abbrev pub is_some_name : Names → Bool
-is_some_name [] = false
-is_some_name (name ∷ names) = true
-
--- It declares a column or lines item.
-abbrev pub has_columns : List Item → Bool
-has_columns items = is_some_name (columns_of items)
-
--- Each column is empty where there is none.
-abbrev pub no_columns : Name → ColumnView
-no_columns name = record { length = pos 0; number = λ i. None; text = λ i. None }
-
--- Columns aren't built yet. Else the program runs, and what it means is said of its own names.
-abbrev pub elided : Bytes → Program → Told
-elided name tree = if has_columns tree.items then refusal (of_file name (codes "NotBuilt")) else run_told name (main_meaning tree.items no_columns)
+-- what is told of data files that came to this: a program runs over its columns, and what it means is said of its own names
+abbrev pub elided : Bytes → Program → DataOutcome → Told
+elided name tree (columns_loaded columns) = run_told name (main_meaning tree.items (columns_in tree.items columns))
+elided name tree (file_unread file) = record { status = 4; bytes = []; line = of_file file (codes "read failed") }
+elided name tree (file_refused file fault) = record { status = 6; bytes = []; line = of_line file fault.row (data_word fault.kind) }
 
 abbrev pub checked : Program → Told
 checked tree = record { status = 0; bytes = canonical_text tree; line = [] }
 
--- what a command tells of a program that passes the checks
-abbrev pub program_told : Command → Bytes → Program → Told
-program_told Elide name tree = elided name tree
-program_told Check name tree = checked tree
+-- what a command tells of a program that passes the checks, and of what its data files came to
+abbrev pub program_told : SerialCommand → Bytes → Program → DataOutcome → Told
+program_told Elide name tree came = elided name tree came
+program_told Check name tree came = checked tree
 
--- what it tells of a file of this name, whose text comes to this
-abbrev pub told_of : Command → Bytes → TextOutcome → Told
-told_of command name (lex_fault fault) = refusal (of_line name fault.line (lex_word fault.kind))
-told_of command name (parse_fault fault) = refusal (of_line name fault.line (parse_word fault.kind))
-told_of command name (check_fault fault) = refusal (of_line name fault.line (check_word fault.kind))
-told_of command name (passes tree) = program_told command name tree
+-- what it tells of a file of this name, whose text comes to this, and of its data files
+abbrev pub told_of : SerialCommand → Bytes → TextOutcome → DataOutcome → Told
+told_of command name (lex_fault fault) came = refusal (of_line name fault.line (lex_word fault.kind))
+told_of command name (parse_fault fault) came = refusal (of_line name fault.line (parse_word fault.kind))
+told_of command name (check_fault fault) came = refusal (of_line name fault.line (check_word fault.kind))
+told_of command name (passes tree) came = program_told command name tree came

@@ -1,8 +1,7 @@
 // The whole command: what the program does, as a function of its arguments, its files and its sinks.
 ghost use Rattle.std.specs.Prelude.{◌≡◌, ◌≢◌, ◌<◌, ◌⊎◌, ◌↔◌, ℕ, List, IfOk, OnErr, IsTrue, Some, None};
-ghost use Rattle.spd_io.specs.Shelf.{FailedAt, ChangesNoOther};
 ghost use Rattle.spd_io.specs.Sink.{Failed, SameFaults};
-ghost use Rattle.spd_top.specs.Serving.{operand_of, words_refused, Says, WantsMemory, Answer};
+ghost use Rattle.spd_top.specs.Serving.{command_of, words_refused, IsUnread, ChangesNoUntouched, Says, WantsMemory, Answer};
 ghost use Rattle.spd_top.specs.Command.{words_of, AreText, OfWords, WhereNotText};
 
 use crate::serving::serve_still;
@@ -70,19 +69,18 @@ pub fn serve_arguments<F: Shelf, O: Sink, E: Sink>(
     ensures not_text { WhereNotText arguments (Says 2 (E.state err.old) (E.state err.new) words_refused result) }
     ensures not_had { OnErr arguments (WantsMemory (E.state err.old) (E.state err.new) result) }
     // Refused words are told as such, unless memory runs out.
-    ensures refused { OfWords arguments (λ words. operand_of words ≡ None →
+    ensures refused { OfWords arguments (λ words. command_of words ≡ None →
         Says 2 (E.state err.old) (E.state err.new) words_refused result ⊎
         WantsMemory (E.state err.old) (E.state err.new) result) }
     // Refused words don't call the shelf; arguments that give no words call neither it nor `out`.
-    ensures uncalled { OfWords arguments (λ words. operand_of words ≡ None → shelf.new ≡ shelf.old) }
+    ensures uncalled { OfWords arguments (λ words. command_of words ≡ None → shelf.new ≡ shelf.old) }
     ensures uncalled_not_text { WhereNotText arguments ((shelf.new ≡ shelf.old) × (out.new ≡ out.old)) }
     ensures uncalled_not_had { OnErr arguments ((shelf.new ≡ shelf.old) × (out.new ≡ out.old)) }
-    // No count but PROGRAM's changes.
-    ensures others { OfWords arguments (λ words. (name : List ℕ) → operand_of words ≡ Some name →
-        ChangesNoOther (F.state shelf.old) (F.state shelf.new) name) }
-    // 4 comes only where a read of PROGRAM failed, and 5 only where a sink failed.
-    ensures read_cause { OfWords arguments (λ words. (name : List ℕ) → operand_of words ≡ Some name → result ≡ 4 →
-        FailedAt (F.state shelf.old) (F.state shelf.new) name) }
+    // No count changes but that of PROGRAM and those of its data files.
+    ensures others { OfWords arguments (λ words. ChangesNoUntouched words (F.state shelf.old) (F.state shelf.new)) }
+    // 4 comes only where a read of one of these failed, and 5 only where a sink failed.
+    ensures read_cause { OfWords arguments (λ words. result ≡ 4 →
+        (name : List ℕ) × IsUnread words (F.state shelf.old) (F.state shelf.new) name) }
     ensures write_cause { result ≡ 5 →
         Failed (O.state out.old) (O.state out.new) ⊎ Failed (E.state err.old) (E.state err.new) }
     // Where `out` failed the status is 5, and where `err` failed it is 4, 5 or 7.

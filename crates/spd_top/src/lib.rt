@@ -3,6 +3,7 @@
 
 mod building;
 mod command;
+mod data;
 mod programs;
 mod serving;
 mod status;
@@ -12,4 +13,4 @@ mod words;
 pub use building::{BuildError, build, read};
 pub use command::serve_arguments;
 pub use serving::serve_still;
-pub use words::{Command, Words};
+pub use words::{SerialCommand, Words};

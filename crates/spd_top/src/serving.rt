@@ -1,9 +1,8 @@
 // What the words of a command line do, over files and sinks.
 
-ghost use Rattle.std.specs.Prelude.{◌≡◌, ◌≢◌, ◌<◌, ◌⊎◌, ℕ, List, [], Some};
-ghost use Rattle.spd_io.specs.Shelf.{FailedAt, ChangesNoOther};
+ghost use Rattle.std.specs.Prelude.{◌≡◌, ◌≢◌, ◌<◌, ◌⊎◌, ℕ, List, None};
 ghost use Rattle.spd_io.specs.Sink.{Failed, SameFaults};
-ghost use Rattle.spd_top.specs.Serving.{operand_of, words_refused, Says, Answer, RefusesText, HasOneOutcome};
+ghost use Rattle.spd_top.specs.Serving.{command_of, words_refused, IsUnread, ChangesNoUntouched, Says, Answer, RefusesText, HasOneOutcome};
 
 use crate::building::{BuildError, build};
 use crate::programs::{elide, show};
@@ -11,7 +10,7 @@ use crate::telling::{
     check_word, fail_read, lex_word, out_of_memory, parse_word, refuse_line, refuse_program,
     refuse_words,
 };
-use crate::words::{Command, Words};
+use crate::words::{SerialCommand, Words};
 use spd_io::{Shelf, ShelfFault, Sink};
 use std::alloc::Global;
 
@@ -37,7 +36,8 @@ fn refuse_text<E: Sink>(alloc: Global, err: &mut E, name: &str, error: BuildErro
 /// Does what the words of a command line say, over a shelf of files, a sink for the output and one
 /// for errors, and answers the status that the command ends with.
 ///
-/// It does `elide PROGRAM` and `check PROGRAM`; every other list of words is refused. It always returns.
+/// It does `elide PROGRAM` and `check PROGRAM`; every other list of words is refused. Where the program
+/// runs, its data files are read first, in the order of their declarations. It always returns.
 #[tactic(auto, using(crate::proofs::OneOutcome::has_one_outcome))]
 pub fn serve_still<F: Shelf, O: Sink, E: Sink>(
     alloc: Global,
@@ -50,14 +50,13 @@ pub fn serve_still<F: Shelf, O: Sink, E: Sink>(
     ensures answer { Answer words.now (F.state shelf.old) (F.state shelf.new) (O.state out.old) (O.state out.new)
         (E.state err.old) (E.state err.new) result }
     // Refused words are told as such, whatever memory there is, and the shelf isn't called.
-    ensures refused { operand_of words.now ≡ None → Says 2 (E.state err.old) (E.state err.new) words_refused result }
-    ensures uncalled { operand_of words.now ≡ None → shelf.new ≡ shelf.old }
-    // No count but PROGRAM's changes.
-    ensures others { (name : List ℕ) → operand_of words.now ≡ Some name →
-        ChangesNoOther (F.state shelf.old) (F.state shelf.new) name }
-    // 4 comes only where a read of PROGRAM failed, and 5 only where a sink failed.
-    ensures read_cause { (name : List ℕ) → operand_of words.now ≡ Some name → result ≡ 4 →
-        FailedAt (F.state shelf.old) (F.state shelf.new) name }
+    ensures refused { command_of words.now ≡ None → Says 2 (E.state err.old) (E.state err.new) words_refused result }
+    ensures uncalled { command_of words.now ≡ None → shelf.new ≡ shelf.old }
+    // No count changes but that of PROGRAM and those of its data files.
+    ensures others { ChangesNoUntouched words.now (F.state shelf.old) (F.state shelf.new) }
+    // 4 comes only where a read of one of these failed, and 5 only where a sink failed.
+    ensures read_cause { result ≡ 4 →
+        (name : List ℕ) × IsUnread words.now (F.state shelf.old) (F.state shelf.new) name }
     ensures write_cause { result ≡ 5 →
         Failed (O.state out.old) (O.state out.new) ⊎ Failed (E.state err.old) (E.state err.new) }
     // Where `out` failed the status is 5, and where `err` failed it is 4, 5 or 7.
@@ -66,8 +65,11 @@ pub fn serve_still<F: Shelf, O: Sink, E: Sink>(
     // Over a file that is told, the outcome is one.
     ensures one { HasOneOutcome words.now (F.state shelf.old).file }
 {
-    let Some((command, name)) = words.asked() else {
+    let Some(command) = words.served() else {
         return refuse_words(err);
+    };
+    let Ok(name) = words.operand(alloc) else {
+        return out_of_memory(err);
     };
     let text = match shelf.read(alloc, name, MAX_TEXT) {
         Ok(text) => text,
@@ -77,8 +79,8 @@ pub fn serve_still<F: Shelf, O: Sink, E: Sink>(
     };
     match build(alloc, &text) {
         Ok(code) => match command {
-            Command::Elide => elide(alloc, name, &code, out, err),
-            Command::Check => show(alloc, &code, out, err),
+            SerialCommand::Elide => elide(alloc, name, &code, shelf, out, err),
+            SerialCommand::Check => show(alloc, &code, out, err),
         },
         Err(error) => refuse_text(alloc, err, name, error),
     }

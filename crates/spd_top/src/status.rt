@@ -16,5 +16,8 @@ pub const READ_FAILED: u8 = 4;
 /// Standard output or standard error failed.
 pub const WRITE_FAILED: u8 = 5;
 
+/// A file of data is refused.
+pub const DATA_REFUSED: u8 = 6;
+
 /// Memory ran out.
 pub const OUT_OF_MEMORY: u8 = 7;

@@ -1,11 +1,12 @@
 // The lines for standard error, with the status that each tells.
 
 ghost use Rattle.std.specs.Prelude.{◌≡◌, ◌⊎◌, ◌%◌, codes, string_bytes, IfOk};
-ghost use Rattle.spd_top.specs.Told.{of_file, of_line, of_fault, lex_word, parse_word, check_word, fault_word};
+ghost use Rattle.spd_top.specs.Told.{of_file, of_line, of_fault, lex_word, parse_word, check_word, data_word, fault_word};
 ghost use Rattle.spd_top.specs.Serving.{words_refused, out_of_memory, GetsOrFails, Says, WantsMemory};
 
 use crate::status;
 use spd_check::CheckKind;
+use spd_cols::DataKind;
 use spd_io::{Sink, write_all_of};
 use spd_syntax::{LexKind, ParseKind};
 use std::alloc::{AllocError, Global};
@@ -113,6 +114,20 @@ pub(crate) fn check_word(kind: CheckKind) -> &'static str
     }
 }
 
+/// The word that tells what a file of data is refused for.
+pub(crate) fn data_word(kind: DataKind) -> &'static str
+    ensures { result.now ≡ data_word kind }
+{
+    match kind {
+        DataKind::TooLong => "TooLong",
+        DataKind::NoField => "NoField",
+        DataKind::Ragged => "Ragged",
+        DataKind::TooMany => "TooMany",
+        DataKind::NotInt => "NotInt",
+        DataKind::NoMemory => "NoMemory",
+    }
+}
+
 /// The words that tell the kind of a fault of a run.
 fn fault_word(kind: u64) -> &'static str
     ensures { result.now ≡ fault_word kind }
@@ -138,6 +153,24 @@ pub(crate) fn fail_run<E: Sink>(alloc: Global, err: &mut E, name: &str, code: u6
     }
 }
 
+/// Tells what is wrong on a line or in a record of a file, and answers the status; or 5 where `err` fails.
+fn refuse_place<E: Sink>(
+    alloc: Global,
+    err: &mut E,
+    name: &str,
+    place: u32,
+    kind: &str,
+    status: u8,
+) -> u8
+    ensures { Says status (E.state err.old) (E.state err.new) (of_line name.now place kind.now) result ⊎
+        WantsMemory (E.state err.old) (E.state err.new) result }
+{
+    match line_line(alloc, name, u64::from(place), kind) {
+        Ok(told) => say(err, told.as_bytes(), status),
+        Err(_) => out_of_memory(err),
+    }
+}
+
 /// Tells that a program is refused for what stands on a line, and answers 1; or 5 where `err` fails.
 pub(crate) fn refuse_line<E: Sink>(
     alloc: Global,
@@ -149,10 +182,21 @@ pub(crate) fn refuse_line<E: Sink>(
     ensures { Says 1 (E.state err.old) (E.state err.new) (of_line name.now line kind.now) result ⊎
         WantsMemory (E.state err.old) (E.state err.new) result }
 {
-    match line_line(alloc, name, u64::from(line), kind) {
-        Ok(told) => say(err, told.as_bytes(), status::PROGRAM_REFUSED),
-        Err(_) => out_of_memory(err),
-    }
+    refuse_place(alloc, err, name, line, kind, status::PROGRAM_REFUSED)
+}
+
+/// Tells that a file of data is refused for a record, and answers 6; or 5 where `err` fails.
+pub(crate) fn refuse_row<E: Sink>(
+    alloc: Global,
+    err: &mut E,
+    name: &str,
+    row: u32,
+    kind: &str,
+) -> u8
+    ensures { Says 6 (E.state err.old) (E.state err.new) (of_line name.now row kind.now) result ⊎
+        WantsMemory (E.state err.old) (E.state err.new) result }
+{
+    refuse_place(alloc, err, name, row, kind, status::DATA_REFUSED)
 }
 
 /// Tells that a program is refused, and answers 1; or 5 where `err` fails.

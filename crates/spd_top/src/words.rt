@@ -1,15 +1,17 @@
 // The words of a command line.
 
-ghost use Rattle.std.specs.Prelude.{◌≡◌, [], ◌∷◌, ◌++◌, Some, None, OnOk, OnErr, MatchOption};
-ghost use Rattle.spd_top.specs.Serving.{is_operand, operand_of, command_of, command_named};
+ghost use Rattle.std.specs.Prelude.{◌≡◌, [], ◌∷◌, ◌++◌, Some, true, map, is_some, IfOk, OnOk, OnErr};
+ghost use Rattle.std.specs.String.{string_bytes};
+ghost use Rattle.spd_top.specs.Serving.{serial_of, operand_of, command_of};
 
+use spd_command::{Command, CommandError, CommandName, lawful_command, read_command};
 use std::alloc::{AllocError, Global};
 use std::marker::Model;
 
-/// What a command line asks for.
+/// A command that runs on one thread.
 #[derive(Clone, Copy, Debug, PartialEq, Eq)]
-pub enum Command {
-    /// To run a program on one thread, each async and finish where it stands.
+pub enum SerialCommand {
+    /// To run a program, each async and finish where it stands.
     Elide,
     /// To tell the first fault of a program, or else its canonical text.
     Check,
@@ -49,45 +51,55 @@ impl Words {
         Ok(())
     }
 
-    /// The command and its operand, or none where the words are refused.
-    pub(crate) fn asked(&self) -> Option<(Command, &str)>
-        ensures { MatchOption result (operand_of self.now ≡ None)
-            (λ asked. (command_of self.now ≡ Some asked.0) × (operand_of self.now ≡ Some asked.1.now)) }
+    /// The command, or none where the words are no line of a command that runs on one thread. It takes no
+    /// memory.
+    pub(crate) fn served(&self) -> Option<SerialCommand>
+        ensures { result ≡ command_of self.now }
     {
-        match self.words.as_slice() {
-            [word, operand] => {
-                let command = command_named(word.as_bytes())?;
-                let name = operand.as_str();
-                if is_operand(name.as_bytes()) {
-                    Some((command, name))
-                } else {
-                    None
-                }
-            }
-            _ => None,
-        }
+        served_in(self.words.as_slice())
+    }
+
+    /// The operand of words that are served.
+    pub(crate) fn operand(&self, alloc: Global) -> Result<&str, AllocError>
+        requires { is_some (command_of self.now) ≡ true }
+        ensures { IfOk result (λ name. operand_of self.now ≡ Some name.now) }
+    {
+        operand_in(alloc, self.words.as_slice())
     }
 }
 
-/// The command of this name.
-fn command_named(word: &[u8]) -> Option<Command>
-    ensures { result ≡ command_named word.now }
+/// The command that words ask for, if it runs on one thread.
+#[tactic(auto, using(crate::proofs::Asking::serial_named, crate::proofs::Asking::serial_none))]
+fn served_in(words: &[String]) -> Option<SerialCommand>
+    ensures { result ≡ command_of (map string_bytes words.now) }
 {
-    if word == b"elide".as_slice() {
-        Some(Command::Elide)
-    } else if word == b"check".as_slice() {
-        Some(Command::Check)
-    } else {
-        None
+    match lawful_command(words) {
+        Some(name) => serial(name),
+        None => None,
     }
 }
 
-/// Whether a word may be an operand: it has a byte, and doesn't begin with `-`.
-fn is_operand(word: &[u8]) -> bool
-    ensures { result ≡ is_operand word.now }
+/// The operand of words that ask for such a command.
+fn operand_in(alloc: Global, words: &[String]) -> Result<&str, AllocError>
+    requires { is_some (command_of (map string_bytes words.now)) ≡ true }
+    ensures { IfOk result (λ name. operand_of (map string_bytes words.now) ≡ Some name.now) }
 {
-    match word {
-        [] => false,
-        [first, ..] => *first != b'-',
+    match read_command(alloc, words) {
+        Ok(Command::Elide { program }) => Ok(program),
+        Ok(Command::Check { program }) => Ok(program),
+        Ok(Command::Run { .. }) => unreachable!(),
+        Err(CommandError::NoMemory) => Err(AllocError),
+        Err(CommandError::Refused) => unreachable!(),
+    }
+}
+
+/// The command of a name that runs on one thread.
+fn serial(name: CommandName) -> Option<SerialCommand>
+    ensures { result ≡ serial_of name }
+{
+    match name {
+        CommandName::Elide => Some(SerialCommand::Elide),
+        CommandName::Check => Some(SerialCommand::Check),
+        CommandName::Run => None,
     }
 }

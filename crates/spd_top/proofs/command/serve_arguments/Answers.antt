@@ -1,6 +1,7 @@
 -- Each way out answers for the words that the arguments are.
-use Rattle.std.proofs.Common.{ap, sym, subst, ◌∙◌}
-use Rattle.spd_top.specs.Serving.{operand_of}
+use Rattle.std.proofs.Common.{List, ap, sym, subst, ◌∙◌}
+use Rattle.spd_top.specs.Told.{Bytes}
+use Rattle.spd_top.specs.Serving.{ChangesNoUntouched}
 use Rattle.spd_top.proofs.Answering.{wanted}
 use Rattle.spd_top.specs.Command.{words_of, AreText}
 use Rattle.spd_top.proofs.Claims.{all_text}
@@ -23,7 +24,7 @@ returns-in-Ok-to_words-clause-uncalled_not_text g c =
 pub returns-in-Ok-to_words-clause-others : goal.returns-in-Ok-to_words-clause-others
 returns-in-Ok-to_words-clause-others g c =
     let are = c.in-Ok-to_words.ensures ∙ c.words_of-words.ensures ∙ ap words_of c.as_slice.ensures.entries in
-    rw c.in-Ok.is (λ text name operand. c.serve_still.ensures.others name (ap operand_of are ∙ operand))
+    rw c.in-Ok.is (λ text. subst (λ (words : List Bytes). ChangesNoUntouched words (g.F.Shelf.state c.args.shelf.now) (g.F.Shelf.state c.serve_still.new.shelf)) are c.serve_still.ensures.others)
 
 pub returns-clause-answer : goal.returns-clause-answer
 returns-clause-answer g c =
