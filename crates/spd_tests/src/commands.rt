@@ -1,6 +1,6 @@
 // What is answered to words, over files and sinks of which calls fail.
 
-use crate::serving::{Answer, Failing, expect, sink_failing_at, words_of};
+use crate::serving::{Answer, Failing, NO_DATA, expect, sink_failing_at, words_of};
 use spd_io::{MemShelf, StillShelf, StillSink};
 use spd_top::serve_still;
 use std::alloc::{AllocError, Global};
@@ -11,8 +11,6 @@ const WORDS_REFUSED: Answer<'static> = (b"", b"spd: words refused\n", 2);
 
 const UNKNOWN: Answer<'static> = (b"", b"spd: a.sp:1: Unknown\n", 1);
 
-const UNBUILT: Answer<'static> = (b"", b"spd: lines.sp: NotBuilt\n", 1);
-
 /// A fault of a run: what is printed before stands.
 const DIVIDED: Answer<'static> = (b"1\n2\n", b"spd: div.sp:3: division by zero\n", 3);
 
@@ -21,9 +19,9 @@ const DEEP: Answer<'static> = (b"1\n", b"spd: deep.sp:2: calls too deep\n", 3);
 const SEMICOLON: Answer<'static> = (b"", b"spd: semicolon.sp:2: Expected\n", 1);
 
 /// Words, the calls that are to fail, and what is answered.
-type CommandRow = (&'static [&'static str], Failing, Answer<'static>);
+pub(crate) type CommandRow = (&'static [&'static str], Failing, Answer<'static>);
 
-static COMMANDS: [CommandRow; 84] = [
+static COMMANDS: [CommandRow; 81] = [
     // Reads.
     (&["elide", "help"], (0, 0, 0), (b"7\n", b"", 0)),
     (&["elide", "help"], (2, 0, 0), (b"7\n", b"", 0)),
@@ -54,31 +52,15 @@ static COMMANDS: [CommandRow; 84] = [
         (0, 0, 2),
         (b"", b"spd: none.sp: read failed\n", 4),
     ),
-    (&["elide", "most.sp"], (0, 0, 0), (b"8\n", b"", 0)),
-    (
-        &["elide", "more.sp"],
-        (0, 0, 0),
-        (b"", b"spd: more.sp: TooLong\n", 1),
-    ),
-    (&["elide", "more.sp"], (0, 0, 1), (b"", b"", 5)),
-    (
-        &["elide", "more.sp"],
-        (0, 0, 2),
-        (b"", b"spd: more.sp: TooLong\n", 1),
-    ),
-    (
-        &["elide", "more.sp"],
-        (1, 0, 0),
-        (b"", b"spd: more.sp: read failed\n", 4),
-    ),
     // Programs that are refused.
     (&["elide", "a.sp"], (0, 0, 0), UNKNOWN),
     (&["elide", "a.sp"], (0, 1, 0), UNKNOWN),
     (&["elide", "a.sp"], (0, 0, 1), (b"", b"", 5)),
     (&["elide", "a.sp"], (0, 0, 2), UNKNOWN),
-    (&["elide", "lines.sp"], (0, 0, 0), UNBUILT),
-    (&["elide", "lines.sp"], (0, 1, 0), UNBUILT),
-    (&["elide", "lines.sp"], (0, 0, 1), (b"", b"", 5)),
+    // A program whose data file is missing.
+    (&["elide", "lines.sp"], (0, 0, 0), NO_DATA),
+    (&["elide", "lines.sp"], (0, 1, 0), NO_DATA),
+    (&["elide", "lines.sp"], (0, 0, 1), (b"", b"", 4)),
     // A fault of a text with its line, and one of its tokens.
     (&["elide", "semicolon.sp"], (0, 0, 0), SEMICOLON),
     (&["elide", "semicolon.sp"], (0, 1, 0), SEMICOLON),
@@ -199,11 +181,6 @@ static COMMANDS: [CommandRow; 84] = [
     (&["check", "a.sp"], (0, 0, 1), (b"", b"", 5)),
     (&["check", "semicolon.sp"], (0, 0, 0), SEMICOLON),
     (
-        &["check", "more.sp"],
-        (0, 0, 0),
-        (b"", b"spd: more.sp: TooLong\n", 1),
-    ),
-    (
         &["check", "none.sp"],
         (0, 0, 0),
         (b"", b"spd: none.sp: read failed\n", 4),
@@ -230,6 +207,39 @@ static COMMANDS: [CommandRow; 84] = [
     (&["elide", "-x"], (1, 1, 0), WORDS_REFUSED),
     (&["elide", "-"], (0, 0, 0), WORDS_REFUSED),
     (&["elide", ""], (0, 0, 0), WORDS_REFUSED),
+    (&["run", "help"], (0, 0, 0), WORDS_REFUSED),
+    (&["run", "help", "--workers", "2"], (0, 0, 0), WORDS_REFUSED),
+    (
+        &["elide", "help", "--workers", "2"],
+        (0, 0, 0),
+        WORDS_REFUSED,
+    ),
+];
+
+/// The same of a file of the greatest size, and of one that is a byte longer.
+static OF_LARGE: [CommandRow; 6] = [
+    (&["elide", "most.sp"], (0, 0, 0), (b"8\n", b"", 0)),
+    (
+        &["elide", "more.sp"],
+        (0, 0, 0),
+        (b"", b"spd: more.sp: TooLong\n", 1),
+    ),
+    (&["elide", "more.sp"], (0, 0, 1), (b"", b"", 5)),
+    (
+        &["elide", "more.sp"],
+        (0, 0, 2),
+        (b"", b"spd: more.sp: TooLong\n", 1),
+    ),
+    (
+        &["elide", "more.sp"],
+        (1, 0, 0),
+        (b"", b"spd: more.sp: read failed\n", 4),
+    ),
+    (
+        &["check", "more.sp"],
+        (0, 0, 0),
+        (b"", b"spd: more.sp: TooLong\n", 1),
+    ),
 ];
 
 /// A program that prints a line of 63 bytes behind one of 2.
@@ -258,7 +268,7 @@ static FILES: [(&str, &[u8]); 10] = [
 ];
 
 /// A shelf of these files.
-fn shelf_of(
+pub(crate) fn shelf_of(
     alloc: Global,
     files: &[(&'static str, &'static [u8])],
 ) -> Result<MemShelf, AllocError> {
@@ -269,40 +279,53 @@ fn shelf_of(
     Ok(shelf)
 }
 
-/// Asserts a row's answer over the files, with one of the greatest size and one of a byte more.
+/// Asserts a row's answer over a shelf.
 fn expect_command(
     rt: &(impl Abort + AllocGlobal),
+    shelf: &mut MemShelf,
     (words, failing, answer): CommandRow,
-    most: &[u8],
-    more: &[u8],
 ) -> Result<(), AllocError> {
-    let mut shelf = shelf_of(rt.alloc(), &FILES)?;
-    shelf.add(rt.alloc(), "most.sp", most)?;
-    shelf.add(rt.alloc(), "more.sp", more)?;
     let row = format!(in rt.alloc(); "{words:?} at {failing:?}")?;
-    expect(rt, words, &mut shelf, failing, answer, row.as_str())
+    expect(rt, words, shelf, failing, answer, row.as_str())
 }
 
-fn expect_commands(
+fn expect_commands(rt: &(impl Abort + AllocGlobal), rows: &[CommandRow]) -> Result<(), AllocError> {
+    for row in rows {
+        let mut shelf = shelf_of(rt.alloc(), &FILES)?;
+        expect_command(rt, &mut shelf, *row)?;
+    }
+    Ok(())
+}
+
+fn expect_of_large(
     rt: &(impl Abort + AllocGlobal),
     rows: &[CommandRow],
     most: &[u8],
     more: &[u8],
 ) -> Result<(), AllocError> {
     for row in rows {
-        expect_command(rt, *row, most, more)?;
+        let mut shelf = MemShelf::new(rt.alloc());
+        shelf.add(rt.alloc(), "most.sp", most)?;
+        shelf.add(rt.alloc(), "more.sp", more)?;
+        expect_command(rt, &mut shelf, *row)?;
     }
     Ok(())
 }
 
 #[test]
 fn words_and_failing_calls_are_told(rt: HostRuntime) -> Result<(), Fail> {
+    expect_commands(&rt, &COMMANDS)?;
+    Ok(())
+}
+
+#[test]
+fn files_of_the_greatest_size_are_read(rt: HostRuntime) -> Result<(), Fail> {
     let alloc = rt.alloc();
     let mut most = Vec::from_slice(alloc, b"main { print 8; }")?;
     most.resize(1_048_576, b' ')?;
     let mut more = Vec::from_slice(alloc, most.as_slice())?;
     more.push(b' ')?;
-    expect_commands(&rt, &COMMANDS, most.as_slice(), more.as_slice())?;
+    expect_of_large(&rt, &OF_LARGE, most.as_slice(), more.as_slice())?;
     Ok(())
 }
 

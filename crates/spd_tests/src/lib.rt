@@ -10,6 +10,8 @@ mod column_rows;
 #[cfg(test)]
 mod commands;
 #[cfg(test)]
+mod data_commands;
+#[cfg(test)]
 mod events;
 #[cfg(test)]
 mod families;

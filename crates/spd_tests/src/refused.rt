@@ -1,6 +1,6 @@
 // Texts that spell no program within the limits, and programs that are refused.
 
-use crate::serving::{NOT_BUILT, expect_fault, expect_of};
+use crate::serving::{NO_DATA, expect_fault, expect_of};
 use std::alloc::AllocError;
 use std::process::Abort;
 use std::test::Fail;
@@ -218,8 +218,8 @@ static REFUSED: [FaultRow; 23] = [
     (b"main { print c[c[0] + 1] + 1; }", "1: Unknown"),
 ];
 
-/// Programs that pass the checks, and have a column or lines.
-static UNBUILT: [&[u8]; 4] = [
+/// Programs that pass the checks, and whose data file is missing.
+static WITHOUT_DATA: [&[u8]; 4] = [
     b"column c: int from \"a\" field \"b\"; main { }",
     b"column c: text from \"a\" field \"b\"; main { }",
     b"main { } lines l from \"a\";",
@@ -234,12 +234,12 @@ fn expect_faults(rt: &(impl Abort + AllocGlobal), rows: &[FaultRow]) -> Result<(
     Ok(())
 }
 
-fn expect_unbuilt(
+fn expect_no_data(
     rt: &(impl Abort + AllocGlobal),
     texts: &[&'static [u8]],
 ) -> Result<(), AllocError> {
     for text in texts {
-        expect_of(rt, text, NOT_BUILT)?;
+        expect_of(rt, text, NO_DATA)?;
     }
     Ok(())
 }
@@ -254,7 +254,7 @@ fn the_first_fault_of_a_text_is_told(rt: HostRuntime) -> Result<(), Fail> {
 }
 
 #[test]
-fn what_is_not_built_is_told(rt: HostRuntime) -> Result<(), Fail> {
-    expect_unbuilt(&rt, &UNBUILT)?;
+fn a_missing_data_file_is_told(rt: HostRuntime) -> Result<(), Fail> {
+    expect_no_data(&rt, &WITHOUT_DATA)?;
     Ok(())
 }

@@ -8,8 +8,8 @@ use std::process::Abort;
 /// The bytes that out and err get, and the status.
 pub(crate) type Answer<'a> = (&'a [u8], &'a [u8], u8);
 
-/// What `elide` answers where a program declares a column or lines.
-pub(crate) const NOT_BUILT: Answer<'static> = (b"", b"spd: a.sp: NotBuilt\n", 1);
+/// What `elide` answers where the data file `a` of a program is missing.
+pub(crate) const NO_DATA: Answer<'static> = (b"", b"spd: a: read failed\n", 4);
 
 /// The calls that are to fail: of the shelf, of out and of err. 0 is none.
 pub(crate) type Failing = (u32, u32, u32);
