@@ -1,15 +1,15 @@
 -- A turn of a chain that goes on: the facts of its step make the turn.
-use Rattle.std.proofs.Common.{◌≡◌, ℕ, ◌<◌, ◌≤◌, ◌+◌, ◌*◌, [], Option, refl, sym, ap, ◌∙◌, subst, Some}
+use Rattle.std.proofs.Common.{◌≡◌, ℕ, ◌<◌, ◌≤◌, ◌+◌, ◌*◌, [], Option, refl, sym, ap, ◌∙◌, subst}
 use Rattle.atomic_table.specs.Table.{Me}
 use Rattle.spd_words.specs.Plan.{PlanView}
-use Rattle.spd_words.specs.Meaning.{Meaning, BodyView}
+use Rattle.spd_words.specs.Meaning.{BodyView}
 use Rattle.spd_words.specs.declared.finish_kind.FinishKind.{FinishKind}
 use Rattle.spd_state.specs.declared.view.View.{View}
 use Rattle.spd_dag.specs.Taken.{TakesStep}
 use Rattle.spd_dag.specs.Acts.{MayChain}
 use Rattle.spd_dag.specs.Draws.{unmoved_known}
 use Rattle.spd_dag.specs.Ends.{IsOver}
-use Rattle.spd_dag.specs.Origins.{Origin, HasDrawn}
+use Rattle.spd_dag.specs.Origins.{Origin}
 use Rattle.spd_dag.specs.ChainStages.{AfterChain, chain_goes, chain_ends, chain_fills, chain_next, chain_place, chain_writes, chain_left}
 use Rattle.spd_dag.specs.Chains.{chain_known, ChainHas, ChainDrew, ChainGoes, ChainTurned, ChainAnswers}
 use Rattle.spd_dag.specs.declared.chain.ChainCall.{ChainCall}

@@ -1,21 +1,19 @@
 -- That the share which makes may take each of the five steps, and what it knows after each.
-use Rattle.std.proofs.Common.{◌≡◌, ◌≢◌, ℕ, ◌+◌, ◌*◌, ◌<◌, ◌≤◌, List, [], ◌∷◌, Bool, true, false, cond, Option, Some, None, refl, sym, ap, ◌∙◌, subst, arith, inl}
+use Rattle.std.proofs.Common.{◌≡◌, ℕ, ◌*◌, ◌<◌, ◌≤◌, [], ◌∷◌, Bool, true, false, cond, Option, Some, None, refl, sym, ap, ◌∙◌, subst, arith, inl}
 use Rattle.atomic_table.specs.Table.{Me, rest}
 use Rattle.spd_words.specs.Plan.{PlanView, moves_place}
 use Rattle.spd_words.specs.Words.{pair_with}
 use Rattle.spd_words.specs.Meaning.{Meaning}
 use Rattle.spd_words.specs.declared.finish_kind.FinishKind.{FinishKind}
-use Rattle.spd_state.specs.Stages.{drawn_view, handed_view, end_view, last_view, end_vertex, body_vertex}
-use Rattle.spd_state.specs.declared.view.Draw.{Draw}
+use Rattle.spd_state.specs.Stages.{drawn_view, end_vertex, body_vertex}
 use Rattle.spd_state.specs.declared.view.Draw.TheVariants.{Make, Spawn}
-use Rattle.spd_state.specs.declared.view.Running.{Running}
 use Rattle.spd_state.specs.declared.view.View.{View}
 use Rattle.spd_state.proofs.Sums.{total_has}
 use Rattle.spd_rule.specs.Held.{StepUnderRule}
 use Rattle.spd_rule.specs.Nobody.{nobody}
 use Rattle.spd_rule.specs.Rest.{at_rest}
 use Rattle.spd_rule.specs.Steps.{MayDrawMove, DrawsMove, drawn_known}
-use Rattle.spd_rule.specs.Moves.{MaySetRoot, MaySetPair, MaySetVertex, the_end, the_body, fresh_pair, pair_kind, vertex_set, pair_set, root_set, stored_in, less_first}
+use Rattle.spd_rule.specs.Moves.{MaySetRoot, MaySetPair, MaySetVertex, the_end, the_body, fresh_pair, pair_kind, vertex_set, pair_set, root_set}
 use Rattle.spd_dag.specs.Acts.{MayMake}
 use Rattle.spd_dag.specs.Makes.{IsMade, made_view}
 

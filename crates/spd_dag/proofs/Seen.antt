@@ -1,8 +1,7 @@
 -- What the rule shows of a running vertex at a step, and what a trade leaves.
-use Rattle.std.proofs.Common.{◌≡◌, ◌≢◌, ℕ, ◌+◌, ◌*◌, ◌<◌, ◌≤◌, List, [], ◌∷◌, Option, Some, None, refl, sym, ap, ◌∙◌, subst, arith}
-use Rattle.std.proofs.Common.{Bool, true, false, eqb, ⊎_elim}
+use Rattle.std.proofs.Common.{[], None, ◌≡◌, ◌≢◌, ℕ, ◌*◌, ◌<◌, ◌≤◌, List, ◌∷◌, Option, Some, refl, sym, ap, ◌∙◌, subst, arith}
+use Rattle.std.proofs.Common.{true, false, eqb, ⊎_elim}
 use Rattle.std.proofs.lemmas.Bool.Decides.{eqb_tells}
-use mathlib.Core.Option.{some}
 use Rattle.atomic_table.specs.Table.{Me, rest}
 use Rattle.spd_words.specs.Plan.{PlanView, IsPlan, grown_nodes, pair_place}
 use Rattle.spd_words.specs.Words.{Pair, Vertex, pair_of}
@@ -15,6 +14,8 @@ use Rattle.spd_state.specs.Parts.{RunsOk, RunOk, ClaimsOk, RootedOk, IsInside}
 use Rattle.spd_state.specs.declared.view.Running.{Running}
 use Rattle.spd_state.specs.declared.view.Flight.{Flight}
 use Rattle.spd_state.specs.declared.view.View.{View}
+use Rattle.spd_words.specs.Meaning.{BodyView}
+use Rattle.spd_rule.specs.Kept.{IsFit, SlotFits}
 use Rattle.spd_rule.specs.Held.{StepUnderRule}
 use Rattle.spd_dag.specs.Taken.{TakesStep}
 use Rattle.spd_state.proofs.Rights.{pair_inside, unclaimed, handle_under, running_ok}
@@ -148,3 +149,18 @@ inc_shown p place found left me me' s r is flat = let a = s.held.dag in let rule
 
 pub drew_spawn : (p : PlanView) (d : ℕ) (r : Running) (v : View) → p.scheme ≡ Flat → HasDrawn p d r v → r.inc ≡ r.finish → DrewSpawn p d r v
 drew_spawn p d r v flat h root = record { drawn = h; flat = let i = h.inside.2 in omega arith; root = root }
+
+-- ---- what lies in the slot that was taken last
+
+abbrev head_body : {B : Type 0} → List (ℕ × Option B) → Option B
+head_body [] = None
+head_body (x ∷ xs) = x.1
+
+module _ {B : Type 0} (view : B → BodyView) (m : Me (Option B) View) where
+  -- a fit body
+  pub slot_fits : (i : ℕ) (b : B) (l : List (ℕ × Option B)) → m.1 ≡ (i, Some b) ∷ l → IsFit (view b) → SlotFits view m
+  slot_fits i b l is fit j c at = let e : Some b ≡ Some c = ap head_body (sym is ∙ at) in let k : b ≡ c = cc in subst (λ (x : B). IsFit (view x)) k fit
+
+  -- or none
+  pub slot_empty : (i : ℕ) (l : List (ℕ × Option B)) → m.1 ≡ (i, None) ∷ l → SlotFits view m
+  slot_empty i l is j c at = let e : None ≡ Some c = ap head_body (sym is ∙ at) in absurd (cc)

@@ -1,15 +1,13 @@
 -- That a share which signals may take the step of each stage, and what it knows after each.
-use Rattle.std.proofs.Common.{◌≡◌, ◌≢◌, ℕ, ◌+◌, ◌-◌, ◌*◌, ◌<◌, ◌≤◌, List, [], ◌∷◌, Bool, true, false, cond, not, Option, Some, None, eqb, refl, sym, ap, ◌∙◌, subst, arith, length}
+use Rattle.std.proofs.Common.{◌≡◌, ℕ, ◌+◌, ◌*◌, ◌≤◌, List, [], ◌∷◌, Bool, true, false, cond, not, Option, Some, None, eqb, refl, sym, ap, ◌∙◌, subst, arith}
 use Rattle.std.proofs.Common.{eq-eqb}
 use Rattle.std.specs.Prelude.{◌&&◌}
 use Rattle.atomic_table.specs.Table.{Me}
 use Rattle.spd_words.specs.Plan.{PlanView}
 use Rattle.spd_words.specs.Words.{Node, Pair}
 use Rattle.spd_state.specs.Dag.{next_handle, right_in}
-use Rattle.spd_state.specs.Sums.{count, same, without}
+use Rattle.spd_state.specs.Sums.{without}
 use Rattle.spd_state.specs.Steps.{claim_after, lose_right, sub_after, lose_view, settle_view, tell_if, keep_if, keep_mark, wake_after}
-use Rattle.spd_state.specs.declared.view.Flight.{Flight}
-use Rattle.spd_state.specs.declared.view.Running.{Running}
 use Rattle.spd_state.specs.declared.view.View.{View}
 use Rattle.spd_state.proofs.Sums.{same_self}
 use Rattle.spd_rule.specs.Rest.{at_rest}

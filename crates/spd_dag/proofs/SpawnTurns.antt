@@ -1,13 +1,13 @@
 -- A turn of a spawn: the facts of its step make the turn.
-use Rattle.std.proofs.Common.{◌≡◌, ℕ, ◌<◌, ◌≤◌, ◌+◌, ◌*◌, [], Option, refl, sym, ap, ◌∙◌, subst, Some}
+use Rattle.std.proofs.Common.{◌≡◌, ℕ, ◌<◌, ◌≤◌, ◌+◌, ◌*◌, [], Option, refl, sym, ap, ◌∙◌, subst}
 use Rattle.atomic_table.specs.Table.{Me}
 use Rattle.spd_words.specs.Plan.{PlanView}
-use Rattle.spd_words.specs.Meaning.{Meaning, BodyView}
+use Rattle.spd_words.specs.Meaning.{BodyView}
 use Rattle.spd_state.specs.declared.view.View.{View}
 use Rattle.spd_dag.specs.Taken.{TakesStep}
 use Rattle.spd_dag.specs.Draws.{unmoved_known}
 use Rattle.spd_dag.specs.Ends.{IsOver}
-use Rattle.spd_dag.specs.Origins.{Origin, HasDrawn}
+use Rattle.spd_dag.specs.Origins.{Origin}
 use Rattle.spd_dag.specs.SpawnStages.{AfterSpawn, spawn_goes, spawn_ends, spawn_fills, spawn_next, spawn_place, spawn_writes, spawn_left}
 use Rattle.spd_dag.specs.Spawns.{spawn_known, SpawnHas, SpawnDrew, SpawnGoes, SpawnTurned, SpawnAnswers}
 use Rattle.spd_dag.specs.declared.spawn.SpawnCall.{SpawnCall}

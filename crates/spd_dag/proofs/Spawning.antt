@@ -1,17 +1,14 @@
 -- That a share which spawns may take the step of each stage, and what it knows after each.
-use Rattle.std.proofs.Common.{◌≡◌, ◌≢◌, ℕ, ◌+◌, ◌-◌, ◌*◌, ◌<◌, ◌≤◌, List, [], ◌∷◌, Bool, cond, Option, Some, None, refl, sym, ap, ◌∙◌, subst, arith, inr, eq-eqb}
+use Rattle.std.proofs.Common.{◌≡◌, ℕ, ◌+◌, ◌-◌, ◌*◌, ◌≤◌, List, [], ◌∷◌, Bool, cond, Option, Some, None, refl, sym, ap, ◌∙◌, subst, arith, inr, eq-eqb}
 use Rattle.atomic_table.specs.Table.{Me, rest}
 use Rattle.spd_words.specs.Plan.{PlanView}
 use Rattle.spd_words.specs.Words.{Pair}
 use Rattle.spd_words.specs.Meaning.{Meaning, BodyView}
-use Rattle.spd_state.specs.Sums.{same, gate, count, without}
-use Rattle.spd_state.specs.Dag.{next_handle, right_in, right_at}
-use Rattle.spd_state.specs.Steps.{claim_after, lose_right}
+use Rattle.spd_state.specs.Sums.{same, gate, without}
+use Rattle.spd_state.specs.Dag.{next_handle, right_at}
+use Rattle.spd_state.specs.Steps.{claim_after}
 use Rattle.spd_state.specs.Stages.{spawn_vertex, drawn_view}
-use Rattle.spd_state.specs.declared.view.Draw.{Draw}
 use Rattle.spd_state.specs.declared.view.Draw.TheVariants.{Make, Spawn}
-use Rattle.spd_state.specs.declared.view.Flight.{Flight}
-use Rattle.spd_state.specs.declared.view.Running.{Running}
 use Rattle.spd_state.specs.declared.view.View.{View}
 use Rattle.spd_state.proofs.Sums.{same_self}
 use Rattle.spd_rule.specs.Nobody.{nobody}
@@ -22,7 +19,7 @@ use Rattle.spd_dag.specs.Acts.{MaySpawn}
 use Rattle.spd_dag.specs.Ends.{IsOver, over_view}
 use Rattle.spd_dag.specs.Origins.{Origin, HasDrawn}
 use Rattle.spd_dag.specs.Draws.{MayDrawOrSee}
-use Rattle.spd_dag.specs.Spawns.{spawn_drawn, spawn_arrived, spawn_claimed, spawn_paired, spawn_stored, DrewSpawn}
+use Rattle.spd_dag.specs.Spawns.{spawn_drawn, spawn_arrived, spawn_claimed, spawn_paired, spawn_stored}
 
 not_make : {A : Type 0} → Spawn ≡ Make → A
 not_make e = cc

@@ -1,5 +1,5 @@
 -- When a share may make, chain, spawn or signal.
-use Rattle.std.specs.Prelude.{◌≡◌, ◌<◌, [], Option, Some, None}
+use Rattle.std.specs.Prelude.{◌≡◌, ◌<◌, [], Some, None}
 use Rattle.spd_words.specs.Meaning.{Meaning, BodyView, IsLawfulTotal, IsTame}
 use Rattle.spd_words.specs.BodyCalls.{CarriesReady, CarriesTame, awaits_after, before_event}
 use Rattle.spd_words.specs.declared.finish_kind.FinishKind.{FinishKind}
@@ -10,6 +10,7 @@ use Rattle.spd_state.specs.Tree.{top_in}
 use Rattle.spd_state.specs.Promises.{promised}
 use Rattle.spd_state.specs.declared.view.Running.{Running}
 use Rattle.spd_state.specs.declared.view.View.{View}
+use Rattle.spd_rule.specs.Kept.{IsFit}
 use Rattle.spd_rule.specs.Steps.{IsFree, HasPaid}
 
 -- It runs the vertex r with its right and has no move in flight; it has neither to collect nor to put the code 0.
@@ -28,10 +29,19 @@ pub record OwesSplit (v : View) (e : Event BodyView) (rest : BodyView) : Type 0 
   pub awaited : rest.means.awaited ≡ awaits_after e
   pub owed : promised v.owes ≡ before_event v.kind e rest.means.promise
 
+-- The body that the event carries may lie in a slot.
+abbrev pub CarriesFit : Event BodyView → Type 0
+CarriesFit (event.Async b) = IsFit b
+CarriesFit (event.Finish k b) = IsFit b
+CarriesFit _ = Unit {0}
+
 -- A share may cut its vertex by the event into the event's body and the rest. A share that runs a wild body owes nothing.
 pub record MayCut (v : View) (r : Running) (e : Event BodyView) (rest : BodyView) : Type 0 where
   pub acts : MayAct v r
   pub ready : CarriesReady v.kind e
+  -- Both bodies may lie in slots.
+  pub carried : CarriesFit e
+  pub fit : IsFit rest
   pub books : v.wild ≡ 0 → OwesSplit v e rest
 
 -- It may chain: the body is the first of a finish of this kind, and the rest waits for that finish.

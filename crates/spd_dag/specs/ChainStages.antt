@@ -1,5 +1,5 @@
 -- The stages of a chain: which word each turn steps on and what it leaves there, and which stage comes next.
-use Rattle.std.specs.Prelude.{◌+◌, ◌*◌, ◌%◌, ◌^◌, ℕ, cond}
+use Rattle.std.specs.Prelude.{◌+◌, ◌*◌, ℕ, cond}
 use lib.Dec.{ltb}
 use Rattle.spd_words.specs.Plan.{PlanView, moves_place, node_place, pair_place, vertex_place}
 use Rattle.spd_words.specs.Words.{pack_pair, pack_vertex}

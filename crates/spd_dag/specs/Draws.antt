@@ -2,7 +2,7 @@
 use Rattle.std.specs.Prelude.{◌≡◌, ◌≢◌, ◌+◌, ◌%◌, ◌^◌, ◌<◌, ℕ, Option, None}
 use Prim.Native.Nat.{zero, suc}
 use Rattle.atomic_table.specs.Table.{Me}
-use Rattle.spd_words.specs.Plan.{PlanView, moves_place}
+use Rattle.spd_words.specs.Plan.{moves_place}
 use Rattle.spd_state.specs.Stages.{MayDraw, full_view}
 use Rattle.spd_state.specs.declared.view.Draw.{Draw}
 use Rattle.spd_state.specs.declared.view.Draw.TheVariants.{Make}

@@ -1,11 +1,11 @@
 -- A make: what the share knows after each of its five steps.
-use Rattle.std.specs.Prelude.{◌≡◌, ◌+◌, ◌*◌, ◌≤◌, [], ◌∷◌, Option, Some, None}
+use Rattle.std.specs.Prelude.{◌≡◌, ◌+◌, ◌*◌, ◌≤◌, [], Option, Some}
 use Rattle.atomic_table.specs.Table.{Me}
 use Rattle.spd_words.specs.Plan.{PlanView}
 use Rattle.spd_words.specs.Meaning.{Meaning}
 use Rattle.spd_state.specs.Promises.{whole_of}
 use Rattle.spd_state.specs.declared.view.View.{View}
-use Rattle.spd_rule.specs.Shares.{field_plan, share_known}
+use Rattle.spd_rule.specs.Shares.{field_plan}
 use Rattle.spd_rule.specs.declared.field.Field.{Field}
 use Rattle.spd_rule.specs.declared.field.Share.{Share}
 

@@ -2,6 +2,7 @@
 
 ghost use Rattle.std.specs.Prelude.{◌≡◌};
 ghost use Rattle.spd_rule.specs.Shares.{IsOf, IsSame, share_view};
+ghost use Rattle.spd_rule.specs.Kept.{IsFit};
 ghost use Rattle.spd_dag.specs.Acts.{MayMake};
 ghost use Rattle.spd_dag.specs.Makes.{MakesRegion};
 
@@ -15,6 +16,7 @@ use std::marker::Brand;
 /// that finish, and then vertex 0, with the body, is ready. It takes five steps, and no memory.
 pub fn make<B: Body>(field: &Field<B>, share: &mut Share<B>, kind: FinishKind, body: B)
     requires of { IsOf field.now share.old }
+    requires fit { IsFit (B.view body) }
     requires may { MayMake (share_view share.old) kind (B.view body).means }
     ensures same { IsSame share.old share.new }
     ensures made { MakesRegion field.now (B.view body).means share.old share.new }

@@ -1,5 +1,5 @@
 -- The make: its draw begins the books, and its `set_root` opens finish 0. And slots that no debt lies in.
-use Rattle.std.proofs.Common.{◌≡◌, ℕ, ◌+◌, ◌*◌, ◌/◌, ◌<◌, ◌≤◌, List, [], ◌∷◌, ◌++◌, set, min, refl, sym, ap, ◌∙◌, subst, arith, Option, Some, None}
+use Rattle.std.proofs.Common.{◌≡◌, ℕ, ◌+◌, ◌*◌, ◌/◌, ◌<◌, ◌≤◌, List, [], ◌∷◌, ◌++◌, length, set, min, refl, sym, ap, ◌∙◌, subst, arith, Option, Some, None}
 use Prim.Native.Nat.{zero, suc}
 use mathlib.Core.Option.{some, none}
 use mathlib.Core.Option as maybe
@@ -16,11 +16,12 @@ use Rattle.spd_state.specs.declared.view.Running.{Running}
 use Rattle.spd_state.specs.declared.view.Flight.{Flight}
 use Rattle.spd_state.specs.declared.view.View.{View}
 use Rattle.spd_state.specs.Parts.{Rule}
-use Rattle.spd_state.specs.Dag.{Dag, waits, openings, opens_in, busy, not_end, load_of}
+use Rattle.spd_state.specs.Dag.{Dag, waits, openings, opens_in, busy, not_end, load_of, right_in}
 use Rattle.spd_state.specs.Parts.{FlightsOk}
 use Rattle.spd_state.specs.Stages.{rooted_view, drawn_view}
 use Rattle.spd_state.specs.Promises.{whole_of}
 use Rattle.spd_state.specs.Promises.{promised}
+use Rattle.spd_state.specs.declared.promise.Owed.{Owed}
 use Rattle.spd_state.specs.declared.view.Draw.TheVariants.{Make}
 use Rattle.spd_state.proofs.Sums.{same_self, same_else, put_here, put_else, total_set, total_kept, each_set}
 use Rattle.spd_state.proofs.Rights.{running_ok, opened_begun}
@@ -180,7 +181,8 @@ module _ {B : Type 0} (view : B → Meaning) (p : PlanView) (a : Dag) (homes hom
 module _ {B : Type 0} (view : B → Meaning) (p : PlanView) (a : Dag) (homes : List (maybe.Option (Option B))) (vs : List View) (rule : Rule p a homes vs)
     (books : Books view p a homes vs)
     (id : ℕ) (v : View) (at : get_elem? vs id ≡ some v) (kind : Opens Make) (told : Meaning)
-    (flies : v.flight ≡ Some record { draw = Make; number = 0; finish = 0; stage = 0 }) (room : load_of v < 66) (idle : v.running ≡ None)
+    (flies : v.flight ≡ Some record { draw = Make; number = 0; finish = 0; stage = 0 }) (room : load_of v < 66)
+    (used : right_in v.running ≡ 0) (spent : v.claimed ≡ []) (free : busy v.awaited + v.hurt ≡ 0)
     (lawful : join v.gives (identity v.gives) v.body.gift ≡ v.body.gift) (fits : v.body.fault ≤ no_fault) where
   abbrev y : View
   y = rooted_view Make 0 told v
@@ -195,11 +197,18 @@ module _ {B : Type 0} (view : B → Meaning) (p : PlanView) (a : Dag) (homes : L
   is_first = let g : Flight = record { draw = Make; number = 0; finish = 0; stage = 0 } in let k = make_old.gives g flies (omega arith) in
       let t = make_old.begun g flies refl (omega arith) in λ j. record { kind = k j; gift = t.0 j; fault = t.1 j }
 
+  -- whatever the share runs owes nothing any more
+  run_spent : (o : Option Running) → right_in o ≡ 0 → (owes : Owed) → run_debt o v.claimed owes ≡ []
+  run_spent None e owes = refl
+  run_spent (Some r) e owes = let c : length v.claimed ≡ 0 = ap length spent in
+      ap (λ k. if_any (not_end r.vertex) (if_any k (owe r.finish (promised owes) ∷ []))) (let z : r.right + length v.claimed ≡ 0 = omega arith in z)
+      ∙ when_none (not_end r.vertex)
+
   were : debts v ≡ record { finish = None; promise = promised v.body } ∷ []
-  were = λ j. run_debt (idle j) v.claimed v.owes ++ fly_debt (flies j) v.body v.rest
+  were = λ j. run_spent v.running used v.owes j ++ fly_debt (flies j) v.body v.rest
 
   now : debts y ≡ owe 0 (promised v.body) ∷ []
-  now = ap (λ o. run_debt o v.claimed v.owes ++ (owe 0 (promised v.body) ∷ [])) idle
+  now = ap (λ l. l ++ (owe 0 (promised v.body) ∷ [])) (run_spent v.running used v.owes)
 
   all_same : (f : ℕ) → put a.expects 0 Y f ≡ a.expects f
   all_same f = dite (ℕ_discrete f 0) (λ e. put_here a.expects 0 Y f e ∙ is_first ∙ ap a.expects (sym e)) (λ e. put_else a.expects 0 Y f e)
@@ -220,8 +229,8 @@ module _ {B : Type 0} (view : B → Meaning) (p : PlanView) (a : Dag) (homes : L
       (let m = ap moves_debt now in let n = ap moves_debt were in omega arith) (λ f. refl) (λ f. refl)
       (let h = make_old in record {
         right = h.right;
-        kind = λ r e. let z = sym idle ∙ e in absurd (cc);
-        awaited = λ r x e. let z = sym idle ∙ e in absurd (cc);
+        kind = λ r e z. let c : length v.claimed ≡ 0 = ap length spent in let u : right_in v.running ≡ r.right = ap right_in e in absurd (omega arith);
+        awaited = λ r x e w. let b : busy v.awaited ≡ 1 = ap busy w in absurd (omega arith);
         sunk = h.sunk;
         gives = λ g e _. let m : record { draw = Make; number = 0; finish = 0; stage = 1 } ≡ g = cc in
             ap (λ (t : Awaited). t.kind) (sym (put_here a.expects 0 Y 0 refl)) ∙ ap (λ (g : Flight). (put a.expects 0 Y g.finish).kind) m;

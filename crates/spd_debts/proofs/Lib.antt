@@ -31,3 +31,9 @@ pub mod Keeping
 pub mod Marking
 pub mod Halves
 pub mod Over
+pub mod Standing
+pub mod Bookkeeping
+pub mod Drawing
+pub mod Storing
+pub mod Sharing
+pub mod Paying

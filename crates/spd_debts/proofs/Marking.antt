@@ -133,3 +133,11 @@ module _ {B : Type 0} (p : PlanView) (a : Dag) (homes : List (maybe.Option (Opti
           (total (λ (u : View). u.done) (set vs id (done_view v))) (a.vertices 1) rule.history.ended (let s = state in omega arith) one_runs
           (let t = total_set (λ (u : View). runs_it 1 u.running) vs id v (done_view v) at in let o = runs_one in omega arith)
           (let t = total_set (λ (u : View). u.done) vs id v (done_view v) at in let u = unmarked in omega arith))
+
+-- the word of the end is 0 while a share runs vertex 1
+pub not_done : {B : Type 0} (p : PlanView) (a : Dag) (homes : List (maybe.Option (Option B))) (vs : List View) (rule : Rule p a homes vs) (id : ℕ)
+    (v : View) (at : get_elem? vs id ≡ some v) (r : Running) (is : v.running ≡ Some r) → r.vertex ≡ 1 → a.done ≡ 0
+not_done p a homes vs rule id v at r is end = let h = rule.history.ended in let o = h.one in
+    let t = total_has (λ (u : View). runs_it 1 u.running) vs id v at in
+    let one : runs_it 1 v.running ≡ 1 = ap (runs_it 1) is ∙ same_self 1 r.vertex (sym end) in
+    dite (ℕ_discrete a.done 1) (λ e. let z = (h.over e).1 in absurd (omega arith)) (λ e. omega arith)

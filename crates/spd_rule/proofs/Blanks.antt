@@ -1,12 +1,12 @@
 -- What a move in flight sets next is as at the start: each store of a move meets a word that is 0, and says so.
-use Rattle.std.proofs.Common.{◌≡◌, ◌≢◌, ℕ, ◌+◌, ◌*◌, ◌<◌, get_or, refl, sym, ap, ◌∙◌, subst, arith, Option, Some, ⊎_elim}
+use Rattle.std.proofs.Common.{◌≡◌, ◌≢◌, ℕ, ◌+◌, ◌*◌, ◌<◌, refl, ap, ◌∙◌, subst, arith, Option, Some, ⊎_elim}
 use mathlib.Core.Option.{some}
 use lib.ListN.{get_elem?}
 use Rattle.atomic_table.specs.Table.{State, Me}
 use Rattle.spd_words.specs.Plan.{PlanView, node_place, pair_place, vertex_place}
 use Rattle.spd_words.specs.Words.{Pair, Vertex, pack_node, pack_pair, pack_vertex}
 use Rattle.spd_words.specs.Meaning.{Meaning}
-use Rattle.spd_state.specs.Dag.{Dag, body_left}
+use Rattle.spd_state.specs.Dag.{body_left}
 use Rattle.spd_state.specs.Parts.{FlightsOk, FlightOk, no_vertex}
 use Rattle.spd_state.specs.declared.view.Draw.{Draw}
 use Rattle.spd_state.specs.declared.view.Draw.TheVariants.{Make, Chain, Spawn}

@@ -1,12 +1,11 @@
 -- What the rule of a state brings with it, from the lemmas of spd_state; and the same of the words.
-use Rattle.std.proofs.Common.{◌≡◌, ◌≢◌, ℕ, ◌+◌, ◌*◌, ◌/◌, ◌%◌, ◌<◌, ◌≤◌, List, get_or, min, sym, ap, ◌∙◌, subst, arith, Option, ⊎_elim, ◌⊎◌, inl, inr}
+use Rattle.std.proofs.Common.{◌≡◌, ◌≢◌, ℕ, ◌+◌, ◌*◌, ◌/◌, ◌%◌, ◌<◌, ◌≤◌, List, get_or, sym, ap, ◌∙◌, subst, arith, Option, ⊎_elim, ◌⊎◌, inl, inr}
 use mathlib.Core.Option.{some}
 use mathlib.Core.Option as maybe
 use mathlib.Core.Logic.{dite}
 use native.Mathlib.Decide.{ℕ_discrete}
-use lib.ListN.{get_elem?}
 use Rattle.spd_words.specs.Plan.{PlanView, node_place, vertex_place}
-use Rattle.spd_words.specs.Words.{Node, Vertex, node_of, vertex_of, pack_node, pack_vertex}
+use Rattle.spd_words.specs.Words.{Node, Vertex, node_of, vertex_of}
 use Rattle.spd_words.proofs.Reading.{node_read, vertex_read}
 use Rattle.spd_state.specs.Dag.{Dag, IsWritten, openings, tellers}
 use Rattle.spd_state.specs.Parts.{Rule}

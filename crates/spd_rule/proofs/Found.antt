@@ -1,5 +1,5 @@
 -- What a step under the rule tells of the word that it found: a root that counts, a handle that is left; and of the root that it left at 0.
-use Rattle.std.proofs.Common.{◌≡◌, ℕ, ◌+◌, ◌-◌, ◌*◌, ◌%◌, ◌^◌, ◌<◌, ◌≤◌, List, length, get_or, set, sym, ap, ◌∙◌, subst, arith, Option, Some, get_or-set_same}
+use Rattle.std.proofs.Common.{◌≡◌, ℕ, ◌+◌, ◌-◌, ◌%◌, ◌^◌, ◌<◌, ◌≤◌, List, length, get_or, sym, ap, ◌∙◌, subst, arith, Option, Some, get_or-set_same}
 use Rattle.atomic_table.specs.Table.{Me}
 use Rattle.spd_words.specs.Plan.{PlanView, node_place, pair_place}
 use Rattle.spd_words.specs.Words.{Node, Pair, node_of, pair_of, pack_node}

@@ -6,6 +6,7 @@
 pub mod Conserved
 pub mod Follows
 pub mod Glue
+pub mod Likeness
 pub mod Claims
 pub mod Blanks
 pub mod Found
@@ -24,3 +25,7 @@ pub mod Stores
 pub mod Stored
 pub mod Looking
 pub mod Waking
+pub mod Offering
+pub mod Collecting
+pub mod Ending
+pub mod Final

@@ -1,6 +1,7 @@
 pub mod Lying
 pub mod Consequences
 pub mod Held
+pub mod Kept
 pub mod Nobody
 pub mod Idle
 pub mod Rest
@@ -8,6 +9,7 @@ pub mod Beside
 pub mod Openings
 pub mod Steps
 pub mod Moves
+pub mod Payments
 pub mod Closings
 pub mod Shares
 pub mod Seats

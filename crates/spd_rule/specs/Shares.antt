@@ -1,8 +1,8 @@
 -- What a clause says of a field and its shares.
 use Rattle.std.specs.Prelude.{◌≡◌, ◌≢◌, ◌∷◌, ◌+◌, ◌-◌, ◌%◌, ◌^◌, ◌<◌, ◌≤◌, ℕ, List, Option, Result, Ok, Err}
 use Rattle.atomic_table.specs.Table.{Me, rest}
-use Rattle.spd_words.specs.Plan.{PlanView, node_place, pair_place, vertex_place}
-use Rattle.spd_words.specs.Meaning.{Meaning}
+use Rattle.spd_words.specs.Plan.{PlanView, node_place, pair_place, vertex_place, gift_place, fault_place}
+use Rattle.spd_words.specs.Meaning.{Meaning, BodyView}
 use Rattle.spd_state.specs.declared.view.Draw.{Draw}
 use Rattle.spd_state.specs.declared.view.View.{View}
 use Rattle.spd_rule.specs.Steps.{pair_in, StartsVertex, LateStart, DrawsMove}
@@ -10,6 +10,7 @@ use Rattle.spd_words.specs.Words.{Pair, Vertex, node_of, pack_pair, pack_vertex}
 use Rattle.spd_rule.specs.Moves.{MaySetVertex, pair_set}
 use Rattle.spd_rule.specs.Consequences.{IsFinished}
 use Rattle.spd_rule.specs.Held.{StepUnderRule}
+use Rattle.spd_rule.specs.Kept.{StandsAround, StartsFit, means_of}
 use Rattle.spd_rule.specs.declared.field.Field.{Field}
 use Rattle.spd_rule.specs.declared.field.Share.{Share}
 
@@ -48,6 +49,10 @@ abbrev pub SubsUnderRule : {B : Type 0} → Field B → ℕ → ℕ → ℕ → 
 SubsUnderRule f place k found s t = StepUnderRule f.plan place found
     ((found + (2 ^ 64 - k)) % 2 ^ 64) s.seat.me t.seat.me
 
+-- A fetch of this share found a word at this place and left that one, under the rule.
+abbrev pub LeavesUnderRule : {B : Type 0} → Field B → ℕ → ℕ → ℕ → Share B → Share B → Type 0
+LeavesUnderRule f place found left s t = StepUnderRule f.plan place found left s.seat.me t.seat.me
+
 -- the same of a store onto a word that was 0 until then
 abbrev pub StoresUnderRule : {B : Type 0} → Field B → ℕ → ℕ → Share B → Share B → Type 0
 StoresUnderRule f place left s t = StepUnderRule f.plan place 0 left s.seat.me t.seat.me
@@ -66,6 +71,11 @@ abbrev pub StartAnswer : {B : Type 0} → (B → Meaning) → Field B → ℕ �
 StartAnswer means f v seen (Ok w) s t = (w ≡ seen) × StartsVertex means f.plan v seen s.seat.me t.seat.me
 StartAnswer means f v seen (Err w) s t = (w ≢ seen) × LateStart v seen w s.seat.me t.seat.me
 
+-- the same of the body that lies in the slot
+abbrev pub StartIsFit : {B : Type 0} → (B → BodyView) → ℕ → Result ℕ ℕ → Share B → Share B → Type 0
+StartIsFit view v (Ok w) s t = StartsFit view v s.seat.me t.seat.me
+StartIsFit view v (Err w) s t = Unit {0}
+
 -- The claim found a handle left of the two at most.
 abbrev pub FindsHandle : Pair → Type 0
 FindsHandle q = (q.claims < q.total) × (q.total ≤ 2)
@@ -81,6 +91,13 @@ root_place f d = node_place f.plan d
 
 abbrev pub start_place : {B : Type 0} → Field B → ℕ → ℕ
 start_place f v = vertex_place f.plan v
+
+-- and those of what a finish has been offered, and of its least code
+abbrev pub offer_place : {B : Type 0} → Field B → ℕ → ℕ
+offer_place f d = gift_place f.plan d
+
+abbrev pub code_place : {B : Type 0} → Field B → ℕ → ℕ
+code_place f d = fault_place f.plan d
 
 -- The share's draw found n moves drawn.
 abbrev pub MoveDrawn : {B : Type 0} → Field B → Draw → Meaning → ℕ → Share B → Share B → Type 0
@@ -107,3 +124,7 @@ pub record IsTraded {B : Type 0} (put got : Option B) (s t : Share B) : Type 0 w
 -- The share may store x in the word of the vertex i, with the body that lies in the slot.
 abbrev pub MayStore : {B : Type 0} → (B → Meaning) → ℕ → Vertex → Share B → Type 0
 MayStore means i x s = MaySetVertex means i x s.seat.me
+
+-- The share took one step under the rule, just before which and just after which the books stood.
+abbrev pub BooksStand : {B : Type 0} → (B → BodyView) → Field B → Share B → Share B → Type 0
+BooksStand view f s t = StandsAround (means_of view) f.plan s.seat.me t.seat.me

@@ -1,6 +1,6 @@
 // The numbers that a share keeps beside its seat, to be read between steps.
 
-ghost use Rattle.std.specs.Prelude.{◌≡◌, ◌≢◌, ◌+◌, ◌*◌, ◌∷◌, [], ◌<◌, ◌≤◌, Some, true, false, length, cond};
+ghost use Rattle.std.specs.Prelude.{◌≡◌, ◌≢◌, ◌+◌, ◌*◌, ◌∷◌, [], ◌<◌, ◌≤◌, Some, None, true, false, length, cond};
 ghost use Rattle.spd_state.specs.Sums.{count};
 ghost use Rattle.spd_words.specs.Words.{vertex_of};
 ghost use Rattle.spd_state.specs.Steps.{lose_right, start_run};
@@ -112,6 +112,13 @@ impl Beside {
             self.running = None;
             self.flight = None;
         }
+    }
+
+    /// Vertex 1 is over, and the share runs nothing.
+    pub fn end(&mut self)
+        ensures { self.new ≡ record self.old { running = None } }
+    {
+        self.running = None;
     }
 
     /// The slot that was taken last, of those that are due.

@@ -11,10 +11,12 @@
 
 mod beside;
 mod closed;
+mod ends;
 mod field;
 mod looks;
 mod moves;
 mod opening;
+mod payments;
 mod reading;
 mod rule;
 mod seats;
@@ -24,9 +26,11 @@ mod told;
 mod wakes;
 
 pub use closed::Closed;
+pub use ends::{see_done, see_fault, see_sum, set_done};
 pub use field::{Field, Share};
 pub use looks::{see_moves, see_vertex};
 pub use moves::{draw_move, set_pair, set_root, set_vertex};
+pub use payments::{add_sum, lower_fault, raise_best};
 pub use steps::{add_root, claim, start_vertex, sub_root};
 pub use told::Told;
 pub use wakes::wake_vertex;

@@ -4,7 +4,7 @@ ghost use Rattle.std.specs.Prelude.{◌≡◌, ◌*◌, ◌<◌, ℕ};
 ghost use Rattle.spd_words.specs.Plan.{moves_place};
 ghost use Rattle.spd_words.specs.Words.{vertex_of};
 ghost use Rattle.spd_rule.specs.Steps.{MaySeeMoves, HasSeen, sees_known, see_known};
-ghost use Rattle.spd_rule.specs.Shares.{IsOf, IsSame, LoadsUnderRule, start_place, share_view, share_known, field_plan};
+ghost use Rattle.spd_rule.specs.Shares.{BooksStand, IsOf, IsSame, LoadsUnderRule, start_place, share_view, share_known, field_plan};
 
 use crate::field::{Field, Share};
 use crate::table::load;
@@ -20,6 +20,7 @@ pub fn see_moves<B: Body>(field: &Field<B>, share: &mut Share<B>) -> u64
     ensures view { share_known share.new ≡ sees_known (share_known share.old) }
     ensures full { (field_plan field.now).moves < result }
     ensures rule { LoadsUnderRule field.now moves_place result share.old share.new }
+    ensures books { BooksStand B.view field.now share.old share.new }
 {
     load::<B, (), Brand>(field, &mut share.seat, 0, &())
 }
@@ -33,6 +34,7 @@ pub fn see_vertex<B: Body>(field: &Field<B>, share: &mut Share<B>, v: u32) -> u6
     ensures view { share_known share.new ≡ see_known v result (share_known share.old) }
     ensures seen { (vertex_of result).state ≡ 2 → HasSeen v result (share_view share.new) }
     ensures rule { LoadsUnderRule field.now (start_place field.now v) result share.old share.new }
+    ensures books { BooksStand B.view field.now share.old share.new }
 {
     let word = field.plan.vertex_place(v) as usize;
     load::<B, u32, Brand>(field, &mut share.seat, word, &v)

@@ -3,10 +3,11 @@
 ghost use Rattle.std.specs.Prelude.{◌≡◌, ◌+◌, ◌*◌, ◌<◌, ◌≤◌, ◌%◌, ◌^◌, ℕ, Option};
 ghost use Rattle.spd_words.specs.Plan.{moves_place, node_place, pair_place};
 ghost use Rattle.spd_words.specs.Words.{vertex_with};
+ghost use Rattle.spd_rule.specs.Kept.{SlotFits};
 ghost use Rattle.spd_rule.specs.Rest.{at_rest};
 ghost use Rattle.spd_rule.specs.Steps.{MayDrawMove};
 ghost use Rattle.spd_rule.specs.Moves.{MaySetRoot, MaySetPair, IsPairOf, IsVertexOf, fresh_pair, root_set, vertex_set};
-ghost use Rattle.spd_rule.specs.Shares.{IsOf, IsSame, AddsUnderRule, StoresUnderRule, MayStore, MoveDrawn, PairSet, VertexStored, PairStored, share_view, share_bodies, share_known, field_plan};
+ghost use Rattle.spd_rule.specs.Shares.{BooksStand, IsOf, IsSame, AddsUnderRule, StoresUnderRule, MayStore, MoveDrawn, PairSet, VertexStored, PairStored, share_view, share_bodies, share_known, field_plan};
 
 use crate::field::{Field, Share};
 use crate::table::{add, store};
@@ -24,6 +25,7 @@ pub fn draw_move<B: Body, P: Told>(field: &Field<B>, share: &mut Share<B>, of: D
     ensures same { IsSame share.old share.new }
     ensures drawn { MoveDrawn field.now of P.told result share.old share.new }
     ensures rule { AddsUnderRule field.now moves_place 1 result share.old share.new }
+    ensures books { BooksStand B.view field.now share.old share.new }
 {
     let old = add::<B, Draw, Brand>(field, &mut share.seat, 0, 1, &of);
     share.beside.draw(of, old, field.plan.moves());
@@ -38,6 +40,7 @@ pub fn set_root<B: Body, P: Told>(field: &Field<B>, share: &mut Share<B>, d: u32
     ensures same { IsSame share.old share.new }
     ensures view { share_known share.new ≡ (root_set d P.told (share_view share.old), share_bodies share.old) }
     ensures rule { StoresUnderRule field.now (node_place (field_plan field.now) d) 2 share.old share.new }
+    ensures books { BooksStand B.view field.now share.old share.new }
 {
     let word = field.plan.node_place(d) as usize;
     store::<B, u32, Brand>(field, &mut share.seat, word, NodeWord::pack(2, 0), &d);
@@ -62,6 +65,7 @@ pub fn set_pair<B: Body, P: Told, Q: Told>(
     ensures same { IsSame share.old share.new }
     ensures view { PairSet second P.told Q.told share.old share.new }
     ensures rule { PairStored field.now d (fresh_pair total kind first second) share.old share.new }
+    ensures books { BooksStand B.view field.now share.old share.new }
 {
     let word = field.plan.pair_place(d) as usize;
     let pair = PairWord::pack(0, total, kind, first, second);
@@ -85,11 +89,13 @@ pub fn set_vertex<B: Body>(
 )
     requires of { IsOf field.now share.old }
     requires numbers { IsVertexOf (field_plan field.now) v (vertex_with state side pair finish inc) }
+    requires fit { SlotFits B.view (share_known share.old) }
     requires may { MayStore (λ b. (B.view b).means) v (vertex_with state side pair finish inc) share.old }
     ensures same { IsSame share.old share.new }
     ensures view { share_known share.new ≡ at_rest (vertex_set (share_known share.old)) }
     ensures few { (share_view share.new).ready ≤ 2 * (field_plan field.now).moves }
     ensures rule { VertexStored field.now v (vertex_with state side pair finish inc) share.old share.new }
+    ensures books { BooksStand B.view field.now share.old share.new }
 {
     let word = field.plan.vertex_place(v) as usize;
     let vertex = VertexWord::pack(state, side, pair, finish, inc);

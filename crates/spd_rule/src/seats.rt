@@ -4,7 +4,7 @@ ghost use Rattle.std.specs.Prelude.{◌≡◌, ◌≢◌, ◌+◌, ◌<◌, ℕ,
 ghost use Rattle.spd_state.specs.Seats.{kept_view, given_view, joined_view, spent_view, IsEmpty};
 ghost use Rattle.spd_rule.specs.Steps.{vertex_in, joined_known};
 ghost use Rattle.spd_rule.specs.Shares.{IsOf, IsSame, share_view, IsTraded, share_bodies, share_known, field_plan};
-ghost use Rattle.spd_rule.specs.Closings.{IsClosedBy, ClosesAllStarted, closed_plan};
+ghost use Rattle.spd_rule.specs.Closings.{IsClosedBy, ClosesAllStarted, ClosesStarted, ClosesMoves, closed_plan};
 
 use crate::beside::Beside;
 use crate::closed::Closed;
@@ -70,13 +70,16 @@ impl<B: Body> Field<B> {
 
     /// The field at its end. No other share of it is left that holds anything, since this one has all
     /// seats and spare seats. Where vertex 1 was woken, every other vertex of a drawn move is started, and
-    /// every root is 0.
+    /// every root is 0. Where the share has the mark of the end, all of them are started; and where it
+    /// carries a tame make, and the code of finish 0 isn't 0, the drawn moves are as many as were promised.
     pub fn close(self, share: Share<B>) -> Closed<B>
         requires of { IsOf self share }
         requires all { (share_view share).seats + (share_view share).spare ≡ 64 }
         ensures plan { closed_plan result ≡ field_plan self }
         ensures rule { IsClosedBy self share result }
         ensures ended { ClosesAllStarted result }
+        ensures started { ClosesStarted (share_view share) result }
+        ensures moves { ClosesMoves (share_view share) result }
     {
         let Field { table, plan } = self;
         let Share { seat, beside } = share;

@@ -5,7 +5,7 @@ ghost use Rattle.spd_words.specs.Words.{node_of, pair_of};
 ghost use Rattle.spd_state.specs.Steps.{add_view};
 ghost use Rattle.spd_rule.specs.Rest.{sub_known};
 ghost use Rattle.spd_rule.specs.Steps.{claim_known, MayClaim, MayAdd, MaySub, MayStart};
-ghost use Rattle.spd_rule.specs.Shares.{IsOf, IsSame, AddsUnderRule, SubsUnderRule, ExchangesUnderRule, StartAnswer, FindsHandle, OverAtLast, claim_place, root_place, start_place, share_view, share_bodies, share_known, field_plan};
+ghost use Rattle.spd_rule.specs.Shares.{BooksStand, StartIsFit, IsOf, IsSame, AddsUnderRule, SubsUnderRule, ExchangesUnderRule, StartAnswer, FindsHandle, OverAtLast, claim_place, root_place, start_place, share_view, share_bodies, share_known, field_plan};
 
 use crate::field::{Field, Share};
 use crate::table::{add, exchange, sub};
@@ -21,6 +21,7 @@ pub fn claim<B: Body>(field: &Field<B>, share: &mut Share<B>) -> u64
     ensures view { share_known share.new ≡ claim_known (pair_of result) (share_known share.old) }
     ensures handle { FindsHandle (pair_of result) }
     ensures rule { AddsUnderRule field.now (claim_place field.now share.old) 1 result share.old share.new }
+    ensures books { BooksStand B.view field.now share.old share.new }
 {
     let Some(running) = share.beside.running else {
         unreachable!()
@@ -41,6 +42,7 @@ pub fn add_root<B: Body>(field: &Field<B>, share: &mut Share<B>, d: u32) -> u64
     ensures view { share_known share.new ≡ (add_view d (share_view share.old), share_bodies share.old) }
     ensures live { 2 ≤ (node_of result).twice }
     ensures rule { AddsUnderRule field.now (root_place field.now d) 2 result share.old share.new }
+    ensures books { BooksStand B.view field.now share.old share.new }
 {
     let word = field.plan.node_place(d) as usize;
     let old = add::<B, u32, Brand>(field, &mut share.seat, word, 2, &d);
@@ -60,6 +62,7 @@ pub fn sub_root<B: Body>(field: &Field<B>, share: &mut Share<B>, d: u32) -> u64
     ensures unit { 2 ≤ (node_of result).twice }
     ensures over { OverAtLast field.now d result share.old share.new }
     ensures rule { SubsUnderRule field.now (root_place field.now d) 2 result share.old share.new }
+    ensures books { BooksStand B.view field.now share.old share.new }
 {
     let word = field.plan.node_place(d) as usize;
     let old = sub::<B, u32, Brand>(field, &mut share.seat, word, 2, &d);
@@ -69,6 +72,7 @@ pub fn sub_root<B: Body>(field: &Field<B>, share: &mut Share<B>, d: u32) -> u64
 
 /// Exchanges the word of the vertex v from `seen`, which is ready, to started. `Ok` comes exactly where
 /// the word was as it was seen: the share runs the vertex, and holds its slot. `Err` has another word.
+/// The body in the slot may go on, and is tame where the share carries that books are kept.
 pub fn start_vertex<B: Body>(
     field: &Field<B>,
     share: &mut Share<B>,
@@ -80,7 +84,9 @@ pub fn start_vertex<B: Body>(
     requires may { MayStart seen (share_view share.old) }
     ensures same { IsSame share.old share.new }
     ensures answer { StartAnswer (λ b. (B.view b).means) field.now v seen result share.old share.new }
+    ensures fit { StartIsFit B.view v result share.old share.new }
     ensures rule { ExchangesUnderRule field.now (start_place field.now v) seen (seen + 1) result share.old share.new }
+    ensures books { BooksStand B.view field.now share.old share.new }
 {
     let word = field.plan.vertex_place(v) as usize;
     let found = exchange::<B, u32, Brand>(field, &mut share.seat, word, seen, seen + 1, &v);

@@ -3,7 +3,7 @@
 ghost use Rattle.std.specs.Prelude.{◌≡◌, ◌+◌, ◌*◌, ◌<◌, ◌≤◌, ℕ};
 ghost use Rattle.spd_words.specs.Words.{vertex_of};
 ghost use Rattle.spd_rule.specs.Steps.{IsTold, wake_known};
-ghost use Rattle.spd_rule.specs.Shares.{IsOf, IsSame, AddsUnderRule, start_place, share_view, share_known, field_plan};
+ghost use Rattle.spd_rule.specs.Shares.{BooksStand, IsOf, IsSame, AddsUnderRule, start_place, share_view, share_known, field_plan};
 
 use crate::field::{Field, Share};
 use crate::table::add;
@@ -22,6 +22,7 @@ pub fn wake_vertex<B: Body>(field: &Field<B>, share: &mut Share<B>, f: u32) -> u
     ensures waited { (vertex_of result).state ≡ 1 }
     ensures few { (share_view share.new).ready ≤ 2 * (field_plan field.now).moves }
     ensures rule { AddsUnderRule field.now (start_place field.now (2 * f + 1)) 1 result share.old share.new }
+    ensures books { BooksStand B.view field.now share.old share.new }
 {
     let word = field.plan.vertex_place(2 * f + 1) as usize;
     let old = add::<B, u32, Brand>(field, &mut share.seat, word, 1, &f);

@@ -1,5 +1,8 @@
 // The vertices of a move in flight, stored one by one, each with its body.
 
+ghost use Rattle.spd_rule.specs.Kept.{IsFit};
+ghost use Rattle.spd_rule_tests.specs.Stubs.{stub_view};
+
 use crate::player::Player;
 use crate::stub::Stub;
 use spd_rule::{Field, set_vertex};
@@ -30,7 +33,8 @@ impl Player {
 
     /// Stores the waiting vertex of a chain, which takes the place of the running one.
     pub fn store_rest(&mut self, field: &Field<Stub>, body: Stub) -> Option<u64>
-        requires { IsOf field.now self.old.share }
+        requires of { IsOf field.now self.old.share }
+        requires fit { IsFit (stub_view body) }
         ensures { IsOf field.now self.new.share }
     {
         let d = self.notes.chaining(2)?;
@@ -63,7 +67,8 @@ impl Player {
 
     /// Stores the body of a make.
     pub fn store_first(&mut self, field: &Field<Stub>, body: Stub) -> Option<u64>
-        requires { IsOf field.now self.old.share }
+        requires of { IsOf field.now self.old.share }
+        requires fit { IsFit (stub_view body) }
         ensures { IsOf field.now self.new.share }
     {
         let d = self.notes.making(3)?;
@@ -79,7 +84,8 @@ impl Player {
 
     /// Stores the body of a chain.
     pub fn store_body(&mut self, field: &Field<Stub>, body: Stub) -> Option<u64>
-        requires { IsOf field.now self.old.share }
+        requires of { IsOf field.now self.old.share }
+        requires fit { IsFit (stub_view body) }
         ensures { IsOf field.now self.new.share }
     {
         let d = self.notes.chaining(3)?;
@@ -95,7 +101,8 @@ impl Player {
 
     /// Stores the left vertex of a spawn.
     pub fn store_left(&mut self, field: &Field<Stub>, body: Stub) -> Option<u64>
-        requires { IsOf field.now self.old.share }
+        requires of { IsOf field.now self.old.share }
+        requires fit { IsFit (stub_view body) }
         ensures { IsOf field.now self.new.share }
     {
         let (d, finish) = self.notes.spawning(2)?;
@@ -117,7 +124,8 @@ impl Player {
 
     /// Stores the right vertex of a spawn.
     pub fn store_right(&mut self, field: &Field<Stub>, body: Stub) -> Option<u64>
-        requires { IsOf field.now self.old.share }
+        requires of { IsOf field.now self.old.share }
+        requires fit { IsFit (stub_view body) }
         ensures { IsOf field.now self.new.share }
     {
         let (d, finish) = self.notes.spawning(3)?;

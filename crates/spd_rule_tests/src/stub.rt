@@ -22,8 +22,13 @@ pub struct Stub {
 }
 
 impl Stub {
+    ghost use Rattle.spd_rule.specs.Kept.{IsFit};
+    ghost use Rattle.spd_rule_tests.specs.Stubs.{stub_view};
+
     /// A stub that may go on.
-    pub fn new(name: u32) -> Stub {
+    pub fn new(name: u32) -> Stub
+        ensures { IsFit (stub_view result) }
+    {
         Stub {
             name,
             stage: StubStage::Going,
@@ -31,7 +36,9 @@ impl Stub {
     }
 
     /// A stub that waits for a plain finish.
-    pub fn waiting(name: u32) -> Stub {
+    pub fn waiting(name: u32) -> Stub
+        ensures { IsFit (stub_view result) }
+    {
         Stub {
             name,
             stage: StubStage::Waits,

@@ -2,3 +2,4 @@
 -- start_vertex and trade, in Outcomes.
 -- The one idea: each step's rule clause is carried over, with the view between the two steps named.
 pub mod Outcomes
+pub mod Fits

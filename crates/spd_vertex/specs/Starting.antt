@@ -3,7 +3,8 @@ use Rattle.std.specs.Prelude.{◌≡◌, ◌≢◌, ◌⊎◌, ◌+◌, ◌∷�
 use mathlib.Core.Option.{some}
 use lib.ListN.{get_elem?}
 use Rattle.atomic_table.specs.Table.{Me}
-use Rattle.spd_words.specs.Meaning.{Meaning}
+use Rattle.spd_words.specs.Meaning.{Meaning, BodyView}
+use Rattle.spd_rule.specs.Kept.{FitsStart}
 use Rattle.spd_words.specs.Plan.{PlanView, vertex_place}
 use Rattle.spd_words.specs.Words.{vertex_of}
 use Rattle.spd_state.specs.Parts.{IsInside}
@@ -12,7 +13,7 @@ use Rattle.spd_state.specs.Steps.{stepped, start_run, start_view}
 use Rattle.spd_state.specs.declared.view.View.{View}
 use Rattle.spd_rule.specs.Held.{StepUnderRule}
 use Rattle.spd_rule.specs.Steps.{meaning_in}
-use Rattle.spd_rule.specs.Shares.{share_known, field_plan}
+use Rattle.spd_rule.specs.Shares.{share_view, share_known, field_plan}
 use Rattle.spd_rule.specs.declared.field.Field.{Field}
 use Rattle.spd_rule.specs.declared.field.Share.{Share}
 use Rattle.spd_vertex.specs.declared.starting.Start.{Start}
@@ -70,3 +71,9 @@ Starting means f i s t answer = StartsBy means (field_plan f) i (share_known s) 
 abbrev pub start_of_slot : {B : Type 0} → Option B → Start B
 start_of_slot None = End
 start_of_slot (Some b) = Ours b
+
+-- The body that came out may go on, and is tame where the share carries that books are kept; it waits only where the vertex waited.
+abbrev pub GivesFit : {B : Type 0} → (B → BodyView) → ℕ → Share B → Start B → Type 0
+GivesFit view i s (Ours b) = FitsStart (share_view s) i (view b)
+GivesFit view i s End = Unit {0}
+GivesFit view i s (Taken state) = Unit {0}

@@ -2,7 +2,7 @@
 
 ghost use Rattle.std.specs.Prelude.{◌≡◌, ◌*◌, ◌<◌, ℕ};
 ghost use Rattle.spd_rule.specs.Shares.{IsOf, IsSame, share_view, share_known, field_plan};
-ghost use Rattle.spd_vertex.specs.Starting.{Starting, start_of_slot};
+ghost use Rattle.spd_vertex.specs.Starting.{GivesFit, Starting, start_of_slot};
 
 use crate::starting::Start;
 use spd_rule::{Field, Share, see_vertex, start_vertex};
@@ -20,6 +20,7 @@ pub fn start<B: Body>(field: &Field<B>, share: &mut Share<B>, vertex: u32) -> St
     requires landed { (share_view share.old).flight ≡ None }
     ensures same { IsSame share.old share.new }
     ensures starts { Starting (λ b. (B.view b).means) field.now vertex share.old share.new result }
+    ensures fit { GivesFit B.view vertex share.old result }
 {
     let seen = see_vertex(field, share, vertex);
     let state = VertexWord::state(seen);

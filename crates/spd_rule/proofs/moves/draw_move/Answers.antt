@@ -7,7 +7,7 @@ use Rattle.spd_rule.proofs.moves.draw_move.Goals as goal
 
 pub add-old-requires-clause-allows : goal.add-old-requires-clause-allows
 add-old-requires-clause-allows g c κs within = let share = c.args.share.now in
-    draws c.args.field.now.plan c.args.field.now.table.shared.table_id.slots share.seat.id share.seat.me c.args.of g.P.Told.told c.args.field.now.deep c.requires.may share.mirrors.seated
+    draws g.B.Body.view c.args.field.now.plan c.args.field.now.table.shared.table_id.slots share.seat.id share.seat.me c.args.of g.P.Told.told c.args.field.now.deep c.requires.may share.mirrors.seated
 
 pub invariant_of-share : goal.invariant_of-share
 invariant_of-share g c = let share = c.args.share.now in let p = c.args.field.now.plan in let n : ℕ = c.add-old.result in let moves = c.moves.ensures in

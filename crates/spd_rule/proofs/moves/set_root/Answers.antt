@@ -2,7 +2,8 @@ use Rattle.std.proofs.Common.{◌≡◌, ◌<◌, ℕ, sym, subst, ap, ◌∙◌
 use Rattle.atomic_table.specs.Table.{Allows}
 use Rattle.atomic_table.specs.Seated.{TableId}
 use Rattle.spd_words.specs.Plan.{node_place}
-use Rattle.spd_rule.specs.Held.{Held, StepUnderRule}
+use Rattle.spd_rule.specs.Held.{StepUnderRule}
+use Rattle.spd_rule.specs.Kept.{Kept}
 use Rattle.spd_rule.specs.Moves.{root_set}
 use Rattle.spd_rule.proofs.Mirrors.{flies_low}
 use Rattle.spd_rule.proofs.Glue.{stores_blank}
@@ -15,14 +16,14 @@ store-requires-clause-allows g c κs within = let share = c.args.share.now in le
     let slots : ℕ = c.args.field.now.table.shared.table_id.slots in let d : ℕ = c.args.d in
     let low : d < p.moves = flies_low p share.seat.table_id me share.beside share.mirrors
     (ap (λ (z : TableId). z.slots) c.requires.of ∙ c.args.field.now.deep) _ c.requires.may.flies in
-    subst (λ (x : ℕ). Allows (Held p) slots share.seat.id me c.node_place-word.result (λ _. x)
+    subst (λ (x : ℕ). Allows (Kept g.B.Body.view p) slots share.seat.id me c.node_place-word.result (λ _. x)
     (λ _ m'. (m' ≡ (root_set d g.P.Told.told me.0, me.1)) × StepUnderRule p c.node_place-word.result 0 x me m'))
     (sym c.pack.ensures.word)
-    (subst (λ (i : ℕ). Allows (Held p) slots share.seat.id me i (λ _. 2)
+    (subst (λ (i : ℕ). Allows (Kept g.B.Body.view p) slots share.seat.id me i (λ _. 2)
     (λ _ m'. (m' ≡ (root_set d g.P.Told.told me.0, me.1)) × StepUnderRule p i 0 2 me m'))
     (sym c.node_place-word.ensures.place)
-    (stores_blank p share.seat.id me (node_place p d) slots 2 (λ m'. m' ≡ (root_set d g.P.Told.told me.0, me.1))
-    (root_blank p share.seat.id me d g.P.Told.told low c.requires.may) (sets_root p slots share.seat.id me d g.P.Told.told low c.requires.may)))
+    (stores_blank p share.seat.id me (node_place p d) g.B.Body.view slots 2 (λ m'. m' ≡ (root_set d g.P.Told.told me.0, me.1))
+    (root_blank p share.seat.id me d g.P.Told.told low c.requires.may) (sets_root g.B.Body.view p slots share.seat.id me d g.P.Told.told low c.requires.may)))
 
 pub returns-clause-rule : goal.returns-clause-rule
 returns-clause-rule g c = let share = c.args.share.now in let p = c.args.field.now.plan in let after = c.store.new.seat.me in

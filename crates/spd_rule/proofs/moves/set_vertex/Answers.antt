@@ -5,7 +5,8 @@ use Rattle.spd_words.specs.Meaning.{Meaning}
 use Rattle.spd_words.specs.Words.{vertex_with, pack_vertex}
 use Rattle.spd_state.specs.declared.view.View.{View}
 use Rattle.spd_words.specs.Plan.{vertex_place}
-use Rattle.spd_rule.specs.Held.{Held, StepUnderRule}
+use Rattle.spd_rule.specs.Held.{StepUnderRule}
+use Rattle.spd_rule.specs.Kept.{Kept}
 use Rattle.spd_rule.specs.Rest.{due, at_rest}
 use Rattle.spd_rule.specs.Beside.{Mirrors}
 use Rattle.spd_rule.specs.Moves.{vertex_set}
@@ -20,16 +21,16 @@ store-requires-clause-allows g c κs within = let share = c.args.share.now in le
     let slots : ℕ = c.args.field.now.table.shared.table_id.slots in
     let x = vertex_with c.args.state c.args.side c.args.pair c.args.finish c.args.inc in let means : g.row.B.Denot → Meaning = λ b. (g.B.Body.view b).means in
     let fit = vertex_fits means p c.args.field.now.lawful share.seat.table_id me share.beside share.mirrors c.args.v x c.requires.numbers c.requires.may in
-    subst (λ (w : ℕ). Allows (Held p) slots share.seat.id me c.vertex_place-word.result (λ _. w)
+    subst (λ (w : ℕ). Allows (Kept g.B.Body.view p) slots share.seat.id me c.vertex_place-word.result (λ _. w)
     (λ _ m'. ((m' ≡ at_rest (vertex_set me)) × (m'.0.ready ≤ 2 * p.moves)) × StepUnderRule p c.vertex_place-word.result 0 w me m'))
     (sym c.pack-vertex.ensures.word)
-    (subst (λ (i : ℕ). Allows (Held p) slots share.seat.id me i (λ _. pack_vertex x)
+    (subst (λ (i : ℕ). Allows (Kept g.B.Body.view p) slots share.seat.id me i (λ _. pack_vertex x)
     (λ _ m'. ((m' ≡ at_rest (vertex_set me)) × (m'.0.ready ≤ 2 * p.moves)) × StepUnderRule p i 0 (pack_vertex x) me m'))
     (sym c.vertex_place-word.ensures.place)
-    (stores_blank p share.seat.id me (vertex_place p c.args.v) slots (pack_vertex x)
+    (stores_blank p share.seat.id me (vertex_place p c.args.v) g.B.Body.view slots (pack_vertex x)
     (λ m'. (m' ≡ at_rest (vertex_set me)) × (m'.0.ready ≤ 2 * p.moves))
     (vertex_blank p share.seat.id me means c.args.v x c.requires.numbers.vertex c.requires.may)
-    (sets_vertex means p slots share.seat.id me c.args.field.now.deep share.mirrors.slots share.holds c.args.v x c.requires.numbers.vertex fit c.requires.may)))
+    (sets_vertex g.B.Body.view p slots share.seat.id me c.args.field.now.deep share.mirrors.slots share.holds c.requires.fit c.args.v x c.requires.numbers.vertex fit c.requires.may)))
 
 pub returns-clause-rule : goal.returns-clause-rule
 returns-clause-rule g c = let share = c.args.share.now in let p = c.args.field.now.plan in let after = c.store.new.seat.me in

@@ -4,7 +4,8 @@ use Rattle.atomic_table.specs.Seated.{TableId}
 use Rattle.spd_words.specs.Words.{pair_of}
 use Rattle.spd_state.specs.Dag.{right_in}
 use Rattle.spd_state.specs.Steps.{claim_after}
-use Rattle.spd_rule.specs.Held.{Held, StepUnderRule}
+use Rattle.spd_rule.specs.Held.{StepUnderRule}
+use Rattle.spd_rule.specs.Kept.{Kept}
 use Rattle.spd_rule.proofs.Found.{handle_found}
 use Rattle.spd_rule.proofs.Claims.{claims}
 use Rattle.spd_rule.proofs.steps.claim.Goals as goal
@@ -15,8 +16,8 @@ add-old-requires-clause-allows g c κs within = let share = c.args.share.now in 
     let is : me.0.running ≡ Some r = sym share.mirrors.running ∙ c.in-Some.is in let mine : r.right ≡ 1 = ap right_in (sym is) ∙ c.requires.may.right in
     let low : r.pair < plan.moves = let i = share.mirrors.inside r c.in-Some.is in let d = c.args.field.now.deep in
     let e : share.seat.table_id.slots ≡ slots = ap (λ (z : TableId). z.slots) c.requires.of in let i₁ = i.1 in omega arith in
-    subst (λ (i : ℕ). Allows (Held plan) slots share.seat.id me i (λ n. (n + 1) % 2 ^ 64) (λ n m'. m' ≡ (claim_after (pair_of n) me.0, me.1)))
-    (sym c.pair_place-word.ensures.place) (claims plan slots share.seat.id me r is mine c.requires.may.room low)
+    subst (λ (i : ℕ). Allows (Kept g.B.Body.view plan) slots share.seat.id me i (λ n. (n + 1) % 2 ^ 64) (λ n m'. m' ≡ (claim_after (pair_of n) me.0, me.1)))
+    (sym c.pair_place-word.ensures.place) (claims g.B.Body.view plan slots share.seat.id me r is mine c.requires.may.room low c.requires.may.free)
 
 pub returns-clause-handle : goal.returns-clause-handle
 returns-clause-handle g c = let share = c.args.share.now in let plan = c.args.field.now.plan in let me = share.seat.me in let r = c.in-Some.running in

@@ -5,7 +5,8 @@ use Rattle.spd_words.specs.Words.{node_of}
 use Rattle.spd_state.specs.Steps.{sub_after}
 use Rattle.spd_state.specs.declared.view.View.{View}
 use Rattle.spd_words.specs.Plan.{node_place}
-use Rattle.spd_rule.specs.Held.{Held, StepUnderRule}
+use Rattle.spd_rule.specs.Held.{StepUnderRule}
+use Rattle.spd_rule.specs.Kept.{Kept}
 use Rattle.spd_rule.specs.Rest.{due, at_rest}
 use Rattle.spd_rule.proofs.Settled.{mirrors_rest, told_rest, sub_due}
 use Rattle.spd_rule.specs.Beside.{Mirrors}
@@ -18,9 +19,9 @@ use Rattle.spd_rule.proofs.steps.sub_root.Goals as goal
 pub sub-old-requires-clause-allows : goal.sub-old-requires-clause-allows
 sub-old-requires-clause-allows g c κs within = let share = c.args.share.now in let me = share.seat.me in let plan = c.args.field.now.plan in
     let slots : ℕ = c.args.field.now.table.shared.table_id.slots in
-    subst (λ (i : ℕ). Allows (Held plan) slots share.seat.id me i (λ n. (n + (2 ^ 64 - 2)) % 2 ^ 64)
+    subst (λ (i : ℕ). Allows (Kept g.B.Body.view plan) slots share.seat.id me i (λ n. (n + (2 ^ 64 - 2)) % 2 ^ 64)
     (λ n m'. (m' ≡ at_rest (sub_after c.args.d (node_of n) me.0, me.1)) × (length m'.0.told ≤ plan.moves))) (sym c.node_place-word.ensures.place)
-    (subs_root plan slots share.seat.id me c.args.d c.requires.root c.args.field.now.deep c.requires.may.lone c.requires.may.unit share.mirrors.slots share.holds)
+    (subs_root g.B.Body.view plan slots share.seat.id me c.args.d c.requires.root c.args.field.now.deep c.requires.may.lone c.requires.may.paid c.requires.may.unit share.mirrors.slots share.holds)
 
 pub depart-requires-clause-unit : goal.depart-requires-clause-unit
 depart-requires-clause-unit g c = let share = c.args.share.now in

@@ -1,4 +1,7 @@
+use Rattle.std.proofs.Common.{ℕ, subst}
 use Rattle.std.proofs.Common.{◌+◌, ◌%◌, ◌^◌}
+use Rattle.spd_words.specs.Plan.{PlanView}
+use Rattle.spd_rule.specs.Kept.{StepUnderBooks, means_of}
 use Rattle.spd_rule.proofs.Glue.{under_rule}
 use Rattle.spd_rule.proofs.table.add.Goals as goal
 
@@ -6,6 +9,14 @@ pub fetch_add-requires : goal.fetch_add-requires
 fetch_add-requires g c = let seat = c.args.seat.now in let table = c.args.field.now.table.shared in (
   c.requires.of.fits,
   c.requires.of.inside,
-  under_rule c.args.field.now.plan table.key g.T.Tells.plan c.args.field.now.keyed c.requires.plan table.table_id.slots seat.id seat.me c.args.word
+  under_rule g.B.Body.view c.args.field.now.plan table.key g.T.Tells.plan c.args.field.now.keyed c.requires.plan table.table_id.slots seat.id seat.me c.args.word
       (λ n. (n + c.args.k) % 2 ^ 64) (g.T.Tells.tells seat.me) c.requires.allows,
 )
+
+pub returns-clause-books : goal.returns-clause-books
+returns-clause-books g c = let n : ℕ = c.fetch_add.result in let me = c.args.seat.now.me in let me' = c.fetch_add.new.seat.me in record {
+  place = c.args.word;
+  found = n;
+  left = ((n + c.args.k) % 2 ^ 64);
+  step = subst (λ (p : PlanView). StepUnderBooks (means_of g.B.Body.view) p c.args.word n ((n + c.args.k) % 2 ^ 64) me me') c.requires.plan c.fetch_add.ensures.2.1;
+}

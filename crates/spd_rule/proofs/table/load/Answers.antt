@@ -1,3 +1,6 @@
+use Rattle.std.proofs.Common.{ℕ, subst}
+use Rattle.spd_words.specs.Plan.{PlanView}
+use Rattle.spd_rule.specs.Kept.{StepUnderBooks, means_of}
 use Rattle.spd_rule.proofs.Glue.{under_rule}
 use Rattle.spd_rule.proofs.table.load.Goals as goal
 
@@ -5,6 +8,14 @@ pub load-requires : goal.load-requires
 load-requires g c = let seat = c.args.seat.now in let table = c.args.field.now.table.shared in (
   c.requires.of.fits,
   c.requires.of.inside,
-  under_rule c.args.field.now.plan table.key g.T.Tells.plan c.args.field.now.keyed c.requires.plan table.table_id.slots seat.id seat.me c.args.word
+  under_rule g.B.Body.view c.args.field.now.plan table.key g.T.Tells.plan c.args.field.now.keyed c.requires.plan table.table_id.slots seat.id seat.me c.args.word
       (λ n. n) (g.T.Tells.tells seat.me) c.requires.allows,
 )
+
+pub returns-clause-books : goal.returns-clause-books
+returns-clause-books g c = let n : ℕ = c.load.result in let me = c.args.seat.now.me in let me' = c.load.new.seat.me in record {
+  place = c.args.word;
+  found = n;
+  left = n;
+  step = subst (λ (p : PlanView). StepUnderBooks (means_of g.B.Body.view) p c.args.word n n me me') c.requires.plan c.load.ensures.2.1;
+}

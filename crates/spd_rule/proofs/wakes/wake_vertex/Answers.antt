@@ -4,7 +4,7 @@ use Rattle.atomic_table.specs.Seated.{TableId}
 use Rattle.spd_words.specs.Words.{vertex_of}
 use Rattle.spd_state.specs.Steps.{wake_after}
 use Rattle.spd_state.specs.declared.view.View.{View}
-use Rattle.spd_rule.specs.Held.{Held}
+use Rattle.spd_rule.specs.Kept.{Kept}
 use Rattle.spd_rule.specs.Rest.{due}
 use Rattle.spd_rule.specs.Beside.{Mirrors}
 use Rattle.spd_rule.specs.Steps.{wake_known}
@@ -16,9 +16,9 @@ use Rattle.spd_rule.proofs.wakes.wake_vertex.Goals as goal
 pub add-old-requires-clause-allows : goal.add-old-requires-clause-allows
 add-old-requires-clause-allows g c κs within = let share = c.args.share.now in let me = share.seat.me in let plan = c.args.field.now.plan in
     let slots : ℕ = c.args.field.now.table.shared.table_id.slots in
-    subst (λ (i : ℕ). Allows (Held plan) slots share.seat.id me i (λ n. (n + 1) % 2 ^ 64)
+    subst (λ (i : ℕ). Allows (Kept g.B.Body.view plan) slots share.seat.id me i (λ n. (n + 1) % 2 ^ 64)
     (λ n m'. (m' ≡ wake_known c.args.f me) × ((vertex_of n).state ≡ 1) × (m'.0.ready ≤ 2 * plan.moves))) (sym c.vertex_place-word.ensures.place)
-    (wakes plan slots share.seat.id me c.args.f c.requires.finish c.requires.told c.args.field.now.deep share.mirrors.slots share.holds)
+    (wakes g.B.Body.view plan slots share.seat.id me c.args.f c.requires.finish c.requires.told c.args.field.now.deep share.mirrors.slots share.holds)
 
 pub wake-requires : goal.wake-requires
 wake-requires g c = let share = c.args.share.now in let t = share.mirrors.told in let f = count_few c.args.f share.seat.me.0.told in let h = c.requires.told in

@@ -8,6 +8,11 @@ use Rattle.spd_rule.proofs.Settled.{none_there}
 use Rattle.spd_vertex.specs.Starting.{StartsBy}
 use Rattle.spd_vertex.specs.declared.starting.Start.{Start}
 use Rattle.spd_vertex.specs.declared.starting.Start.TheVariants.{Taken}
+use Rattle.std.proofs.Common.{ap, Option}
+use Rattle.atomic_table.specs.Table.{Me, rest}
+use Rattle.spd_state.specs.declared.view.View.{View}
+use Rattle.spd_vertex.specs.Starting.{GivesFit}
+use Rattle.spd_vertex.proofs.Fits.{fit_out}
 use Rattle.spd_vertex.proofs.Outcomes.{begun, lost}
 use Rattle.spd_vertex.proofs.vertex.start.Goals as goal
 
@@ -30,3 +35,10 @@ returns-in-Err-clause-starts g c = let means : g.row.B.Denot → Meaning = λ b.
     subst (λ (x : ℕ). StartsBy means p i s after (Taken x)) (sym c.state.ensures)
     (lost means p i s seen after found ready c.see_vertex-seen.ensures.view c.see_vertex-seen.ensures.rule c.in-Err.found
     (c.see_vertex-seen.ensures.seen ready) c.in-Err.ensures.answer.1 c.in-Err.ensures.rule)
+
+pub returns-in-Ok-clause-fit : goal.returns-in-Ok-clause-fit
+returns-in-Ok-clause-fit g c = let view = g.B.Body.view in let share = c.args.share.now in let seen = share_known c.see_vertex-seen.new.share in
+    let after = share_known c.start_vertex.new.share in let t = c.trade.ensures.traded in let answer = c.in-Ok.ensures.answer in
+    subst (λ (r : Start g.row.B.Denot). GivesFit view c.args.vertex share r) (sym c.taken_out.ensures)
+    (fit_out view c.args.vertex c.see_vertex-seen.result share seen after c.see_vertex-seen.ensures.view c.in-Ok.ensures.fit answer.1.body
+    (ap (λ (m : Me (Option g.row.B.Denot) View). m.1) answer.1.known) t.slot c.trade.result (rest after.1) t.before)

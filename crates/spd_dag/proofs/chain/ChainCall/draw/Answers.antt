@@ -1,4 +1,4 @@
-use Rattle.std.proofs.Common.{◌≡◌, ℕ, ◌<◌, ◌≤◌, Bool, cond, Option, Some, refl, sym, ap, ◌∙◌, subst, arith}
+use Rattle.std.proofs.Common.{◌≡◌, ℕ, ◌<◌, ◌≤◌, Bool, cond, Option, refl, sym, ap, ◌∙◌, subst, arith}
 use Rattle.std.proofs.lemmas.Bool.{lt-ltb, le-ltb}
 use Rattle.atomic_table.specs.Table.{Me}
 use Rattle.spd_words.specs.Plan.{PlanView, moves_place}
@@ -7,7 +7,7 @@ use Rattle.spd_state.specs.declared.view.View.{View}
 use Rattle.spd_rule.specs.Held.{StepUnderRule}
 use Rattle.spd_dag.specs.Origins.{HasDrawn}
 use Rattle.spd_dag.specs.Draws.{MayDrawOrSee, draw_writes, unmoved_known}
-use Rattle.spd_dag.specs.ChainStages.{AfterChain, chain_goes, chain_fills}
+use Rattle.spd_dag.specs.ChainStages.{chain_goes, chain_fills}
 use Rattle.spd_dag.specs.Chains.{chain_drawn}
 use Rattle.spd_dag.specs.declared.chain.ChainStage.TheVariants as stage
 use Rattle.spd_dag.proofs.Seen.{has_drawn, same_some, plain_step}

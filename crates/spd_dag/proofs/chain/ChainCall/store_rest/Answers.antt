@@ -1,7 +1,7 @@
-use Rattle.std.proofs.Common.{◌≡◌, ◌≢◌, ℕ, ◌+◌, ◌*◌, ◌<◌, List, [], ◌∷◌, Option, Some, None, refl, sym, ap, ◌∙◌, subst, arith}
+use Rattle.std.proofs.Common.{◌≡◌, ℕ, ◌+◌, ◌*◌, ◌∷◌, Option, Some, None, refl, sym, ap, ◌∙◌, subst, arith}
 use Rattle.atomic_table.specs.Table.{Me, rest}
 use Rattle.spd_words.specs.Plan.{vertex_place}
-use Rattle.spd_words.specs.Words.{Vertex, vertex_with, pack_vertex}
+use Rattle.spd_words.specs.Words.{pack_vertex}
 use Rattle.spd_words.specs.Meaning.{Meaning}
 use Rattle.spd_state.specs.Stages.{chain_rest_vertex}
 use Rattle.spd_state.specs.declared.view.Running.{Running}
@@ -10,8 +10,8 @@ use Rattle.spd_rule.specs.Held.{StepUnderRule}
 use Rattle.spd_rule.specs.Rest.{at_rest}
 use Rattle.spd_rule.specs.Moves.{MaySetVertex, vertex_set, IsVertexOf}
 use Rattle.spd_dag.specs.declared.chain.ChainStage.TheVariants as stage
-use Rattle.spd_dag.proofs.Seen.{traded_at, step_of, nothing_taken, same_some}
-use Rattle.spd_dag.proofs.Chaining.{handed, waiting, chain_may_rest, rest_stored}
+use Rattle.spd_dag.proofs.Seen.{slot_fits, traded_at, step_of, nothing_taken, same_some}
+use Rattle.spd_dag.proofs.Chaining.{handed, chain_may_rest, rest_stored}
 use Rattle.spd_dag.proofs.ChainTurns.{known_at, has_at, drew_at, chain_more}
 use Rattle.spd_dag.proofs.chain.ChainCall.store_rest.Goals as goal
 
@@ -44,6 +44,15 @@ set_vertex-requires-clause-may g c κs within = let o = c.requires.goes.0 in let
     subst (λ (x : Running). MaySetVertex means (2 * d + 1) (chain_rest_vertex x) c.trade.new.share.seat.me) r
     (subst (λ (m : Me (Option g.row.B.Denot) View). MaySetVertex means (2 * d + 1) (chain_rest_vertex o.runs) m) (sym (e ∙ (λ i. (k.0, (2 * d + 1, put i) ∷ rest k.1))))
     (chain_may_rest v o old.kind h.may d))
+
+pub set_vertex-requires-clause-fit : goal.set_vertex-requires-clause-fit
+set_vertex-requires-clause-fit g c κs within = let o = c.requires.goes.0 in let h = c.requires.goes.1 in let v = g.B.Body.view in let d : ℕ = c.args.d in
+    let me = c.args.share.now.seat.me in let old = c.args.self.now in let p = c.args.field.now.plan in
+    let k : Me (Option g.row.B.Denot) View = handed v o old.kind h.may d in let at = known_at v p o old me h (stage.Rest d) c.requires.stage in
+    let put : c.take.result ≡ Some o.rest = c.take.ensures.value ∙ (has_at v p o old me h (stage.Rest d) c.requires.stage).1 in let t = c.trade.ensures.traded in
+    let e : c.trade.new.share.seat.me ≡ (k.0, (2 * d + 1, c.take.result) ∷ rest k.1) = traded_at k me c.trade.new.share.seat.me (2 * d + 1) t.slot None c.trade.result
+    c.take.result (rest k.1) at refl t.before t.after in
+    slot_fits v c.trade.new.share.seat.me (2 * d + 1) o.rest (rest k.1) (ap (λ (m : Me (Option g.row.B.Denot) View). m.1) (e ∙ (λ i. (k.0, (2 * d + 1, put i) ∷ rest k.1)))) h.may.fit
 
 pub returns-clause-turned : goal.returns-clause-turned
 returns-clause-turned g c = λ o h. let v = g.B.Body.view in let d : ℕ = c.args.d in

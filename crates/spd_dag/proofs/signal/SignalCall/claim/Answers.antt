@@ -1,9 +1,8 @@
-use Rattle.std.proofs.Common.{◌≡◌, ℕ, ◌+◌, ◌%◌, ◌^◌, ◌<◌, Option, Some, refl, sym, ap, ◌∙◌, subst, arith}
+use Rattle.std.proofs.Common.{ℕ, ◌+◌, ◌%◌, ◌^◌, refl, sym, ap, ◌∙◌, subst, arith}
 use Rattle.spd_words.specs.Plan.{pair_place}
 use Rattle.spd_words.specs.Words.{pair_of}
 use Rattle.spd_state.specs.Dag.{next_handle}
 use Rattle.spd_state.specs.Steps.{claim_after}
-use Rattle.spd_state.specs.declared.view.Running.{Running}
 use Rattle.spd_state.specs.declared.view.View.{View}
 use Rattle.spd_rule.specs.Held.{StepUnderRule}
 use Rattle.spd_rule.specs.Steps.{MayClaim, pair_in}

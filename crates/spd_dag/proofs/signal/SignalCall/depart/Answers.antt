@@ -1,8 +1,8 @@
-use Rattle.std.proofs.Common.{◌≡◌, ℕ, ◌+◌, ◌-◌, ◌%◌, ◌^◌, ◌<◌, ◌≤◌, ◌*◌, Bool, true, false, cond, eqb, eq-eqb, Option, Some, None, refl, sym, ap, ◌∙◌, subst, arith}
+use Rattle.std.proofs.Common.{◌≡◌, ℕ, ◌+◌, ◌-◌, ◌%◌, ◌^◌, ◌≤◌, ◌*◌, Bool, true, false, cond, eqb, Option, None, refl, sym, ap, ◌∙◌, subst, arith}
 use Rattle.atomic_table.specs.Table.{Me}
 use Rattle.spd_words.specs.Plan.{PlanView, node_place}
 use Rattle.spd_rule.specs.Held.{StepUnderRule}
-use Rattle.spd_words.specs.Words.{Node, node_of}
+use Rattle.spd_words.specs.Words.{node_of}
 use Rattle.spd_state.specs.Steps.{sub_after}
 use Rattle.spd_state.specs.declared.view.View.{View}
 use Rattle.spd_rule.specs.Rest.{at_rest}

@@ -1,8 +1,6 @@
-use Rattle.std.proofs.Common.{◌≡◌, ℕ, ◌+◌, ◌*◌, ◌<◌, Option, Some, refl, sym, ap, ◌∙◌, subst, arith}
-use Rattle.atomic_table.specs.Table.{Me}
+use Rattle.std.proofs.Common.{ℕ, ◌+◌, ◌*◌, Some, refl, sym, ap, ◌∙◌, subst, arith}
 use Rattle.spd_state.specs.Steps.{wake_after}
 use Rattle.spd_state.specs.declared.view.View.{View}
-use Rattle.spd_state.proofs.Sums.{same_self}
 use Rattle.spd_rule.specs.Rest.{at_rest}
 use Rattle.spd_rule.specs.Steps.{IsTold}
 use Rattle.spd_dag.specs.declared.signal.SignalStage.TheVariants as stage

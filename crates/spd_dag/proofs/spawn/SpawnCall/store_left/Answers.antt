@@ -1,4 +1,4 @@
-use Rattle.std.proofs.Common.{◌≡◌, ◌≢◌, ℕ, ◌+◌, ◌*◌, ◌<◌, List, [], ◌∷◌, Option, Some, None, refl, sym, ap, ◌∙◌, subst, arith}
+use Rattle.std.proofs.Common.{◌≡◌, ℕ, ◌*◌, ◌∷◌, Option, Some, None, refl, sym, ap, ◌∙◌, subst, arith}
 use Rattle.atomic_table.specs.Table.{Me, rest}
 use Rattle.spd_words.specs.Plan.{vertex_place}
 use Rattle.spd_words.specs.Words.{pack_vertex}
@@ -10,7 +10,7 @@ use Rattle.spd_rule.specs.Held.{StepUnderRule}
 use Rattle.spd_rule.specs.Rest.{at_rest}
 use Rattle.spd_rule.specs.Moves.{MaySetVertex, vertex_set, IsVertexOf}
 use Rattle.spd_dag.specs.declared.spawn.SpawnStage.TheVariants as stage
-use Rattle.spd_dag.proofs.Seen.{traded_at, step_of, nothing_taken, same_some}
+use Rattle.spd_dag.proofs.Seen.{slot_fits, traded_at, step_of, nothing_taken, same_some}
 use Rattle.spd_dag.proofs.Spawning.{paired, spawn_may_left, left_stored}
 use Rattle.spd_dag.proofs.SpawnTurns.{known_at, has_at, drew_at, spawn_more}
 use Rattle.spd_dag.proofs.spawn.SpawnCall.store_left.Goals as goal
@@ -42,6 +42,15 @@ set_vertex-requires-clause-may g c κs within = let o = c.requires.goes.0 in let
     subst (λ (x : Running). MaySetVertex means (2 * d) (spawn_vertex d x.finish 0 x.inc) c.trade.new.share.seat.me) r
     (subst (λ (m : Me (Option g.row.B.Denot) View). MaySetVertex means (2 * d) (spawn_vertex d o.runs.finish 0 o.runs.inc) m)
     (sym (e ∙ (λ i. (k.0, (2 * d, put i) ∷ rest k.1)))) (spawn_may_left v o h.may d))
+
+pub set_vertex-requires-clause-fit : goal.set_vertex-requires-clause-fit
+set_vertex-requires-clause-fit g c κs within = let o = c.requires.goes.0 in let h = c.requires.goes.1 in let v = g.B.Body.view in let d : ℕ = c.args.d in
+    let me = c.args.share.now.seat.me in let old = c.args.self.now in let p = c.args.field.now.plan in
+    let k : Me (Option g.row.B.Denot) View = paired v o h.may d in let at = known_at v p o old me h (stage.Left d) c.requires.stage in
+    let put : c.take.result ≡ Some o.body = c.take.ensures.value ∙ (has_at v p o old me h (stage.Left d) c.requires.stage).0 in let t = c.trade.ensures.traded in
+    let e : c.trade.new.share.seat.me ≡ (k.0, (2 * d, c.take.result) ∷ rest k.1) = traded_at k me c.trade.new.share.seat.me (2 * d) t.slot None c.trade.result
+    c.take.result (rest k.1) at refl t.before t.after in
+    slot_fits v c.trade.new.share.seat.me (2 * d) o.body (rest k.1) (ap (λ (m : Me (Option g.row.B.Denot) View). m.1) (e ∙ (λ i. (k.0, (2 * d, put i) ∷ rest k.1)))) h.may.cuts.carried
 
 pub returns-clause-turned : goal.returns-clause-turned
 returns-clause-turned g c = λ o h. let v = g.B.Body.view in let d : ℕ = c.args.d in

@@ -1,4 +1,4 @@
-use Rattle.std.proofs.Common.{Option, Some, None, true, sym, ◌∙◌, subst}
+use Rattle.std.proofs.Common.{Option, Some, None, sym, ◌∙◌, subst}
 use Rattle.atomic_table.specs.Table.{Me}
 use Rattle.spd_words.specs.Words.{Node, node_of}
 use Rattle.spd_state.specs.declared.view.Running.{Running}

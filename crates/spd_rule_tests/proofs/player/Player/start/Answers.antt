@@ -2,7 +2,12 @@ use Rattle.std.proofs.Common.{Some, true, sym, subst}
 use Rattle.spd_words.specs.Words.{Vertex, vertex_of}
 use Rattle.spd_rule_tests.specs.declared.notes.Notes.{Notes}
 use Rattle.spd_rule_tests.specs.Ties.{Ties}
-use Rattle.spd_rule_tests.proofs.Signalled.{ties_start}
+use Rattle.atomic_table.specs.Table.{Me}
+use Rattle.spd_state.specs.declared.view.View.{View}
+use Rattle.spd_rule_tests.specs.Ties.{Ties}
+use Rattle.spd_rule_tests.specs.declared.stub.Stub.{Stub}
+use Rattle.std.proofs.Common.{Option}
+use Rattle.spd_rule_tests.proofs.Signalled.{ties_idle, ties_start}
 use Rattle.spd_rule_tests.proofs.player.Player.start.Goals as goal
 
 pub invariant_of-self : goal.invariant_of-self
@@ -16,3 +21,8 @@ invariant_of-self c = let self = c.args.self.now in let me = self.share.seat.me 
         knows = true;
       }) (ties_start me me1 me2 self.notes self.ties c.if-not-rests.ensures c.args.v x hit.body c.trade-body.result t.slot hit.known t.before t.after);
     }
+
+pub invariant_of-self-in-Err-1 : goal.invariant_of-self-in-Err-1
+invariant_of-self-in-Err-1 c = let self = c.args.self.now in record {
+  ties = subst (λ (m : Me (Option Stub) View). Ties m self.notes) (sym c.in-Err.ensures.answer.1.known) (ties_idle self.share.seat.me self.notes self.ties);
+}
