@@ -1,3 +1,5 @@
 pub mod Hands
+pub mod Meets
 pub mod Runs
 pub mod Turns
+pub mod Workers

@@ -3,4 +3,6 @@
 
 mod events;
 mod hands;
+mod told;
 mod turns;
+mod worker;
