@@ -1,4 +1,4 @@
-// What a worker's vertices collect: one that is new what its body waits for, and the end what the region gives.
+// A worker's vertices: one that is new collects what its body waits for and runs, and the end collects and marks the region.
 
 ghost use Rattle.std.specs.Prelude.{◌≡◌, ◌*◌, ◌<◌, Some, None};
 ghost use Rattle.spd_words.specs.Meaning.{kind_of_awaited};
@@ -10,11 +10,14 @@ ghost use Rattle.spd_work.specs.Hands.{Sits};
 ghost use Rattle.spd_work.specs.Runs.{Rests, RunsOn, RunsEnd, RunsNew, Lasts, Stays};
 ghost use Rattle.spd_work.specs.Workers.{EndsWell, HasKind, MayResume};
 
+use crate::events::{on_no_memory, run_events};
 use crate::hands::Hands;
 use spd_book::{Collected, collect};
 use spd_ready::Ready;
 use spd_rule::{Field, Share, set_done};
 use spd_words::{Body, FinishKind};
+use std::alloc::Global;
+use std::sync::Wait;
 
 /// A worker of a region.
 #[derive(Drop)]
@@ -24,8 +27,37 @@ pub(crate) struct Worker<B, Q> {
     pub ended: Option<Collected>,
 }
 
+/// Runs a vertex that has just been started. Where its body waits for a finish, it collects that first.
+pub(crate) fn go_on<R: Wait, B: Body, Q: Ready>(
+    rt: &R,
+    alloc: Global,
+    field: &Field<B>,
+    hands: &mut Hands<B, Q>,
+    vertex: u32,
+    mut body: B,
+)
+    requires sits { Sits Q.room Q.pushed field.now hands.old }
+    requires inside { vertex < 2 * (field_plan field.now).moves }
+    requires begins { (r : Running) × RunsNew (share_view hands.old.share) r vertex (B.view body) }
+    ensures sits { Sits Q.room Q.pushed field.now hands.new }
+    ensures lasts { Lasts (share_view hands.old.share) (share_view hands.new.share) }
+    ensures rests { Rests (share_view hands.new.share) }
+{
+    let Some(kind) = body.waits() else {
+        run_events(rt, alloc, field, hands, body);
+        return;
+    };
+    let collected = collect_first(field, &mut hands.share, vertex, kind, &body);
+    if collected.fault == 0 {
+        on_no_memory(rt, field, hands, body);
+        return;
+    }
+    body.resume(collected.gift, collected.fault);
+    run_events(rt, alloc, field, hands, body);
+}
+
 /// Collects what the body of a new vertex waits for. Unless the code is 0, the body may be resumed with it.
-pub(crate) fn collect_first<B: Body>(
+fn collect_first<B: Body>(
     field: &Field<B>,
     share: &mut Share<B>,
     vertex: u32,
