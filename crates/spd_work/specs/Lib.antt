@@ -1,3 +1,6 @@
 pub mod Hands
+pub mod Meets
 pub mod Runs
+pub mod Starts
 pub mod Turns
+pub mod Workers

@@ -2,5 +2,10 @@
 #![tactic(auto)]
 
 mod events;
+mod gate;
 mod hands;
+mod told;
 mod turns;
+mod worker;
+
+pub use gate::{Gate, Open};
