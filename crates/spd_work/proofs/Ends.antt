@@ -12,10 +12,10 @@ use Rattle.spd_rule.specs.Shares.{share_view, share_known, share_bodies}
 use Rattle.spd_rule.specs.declared.field.Share.{Share}
 use Rattle.spd_book.specs.Collects.{MayCollect, GivesExpected}
 use Rattle.spd_book.specs.declared.collecting.Collected.{Collected}
-use Rattle.spd_work.specs.Runs.{Rests, RunsEnd, Stays}
+use Rattle.spd_work.specs.Runs.{Rests, RunsTheEnd, Stays}
 use Rattle.spd_work.specs.Workers.{EndsWell, HasKind}
 
-pub end_collects : (v : View) (r : Running) (k : FinishKind) → RunsEnd v r → HasKind v k → MayCollect v 0 k
+pub end_collects : (v : View) (r : Running) (k : FinishKind) → RunsTheEnd v r → HasKind v k → MayCollect v 0 k
 end_collects v r k runs kinds = record {
   runs = r;
   running = runs.running;
@@ -29,21 +29,21 @@ end_collects v r k runs kinds = record {
     no_kind x e = absurd (cc)
 
 -- the view once it has collected
-pub end_seen : (v : View) (r : Running) (c word : ℕ) → RunsEnd v r → collected_view v.awaited c (shown_view word v) ≡ stepped (shown_view word v)
+pub end_seen : (v : View) (r : Running) (c word : ℕ) → RunsTheEnd v r → collected_view v.awaited c (shown_view word v) ≡ stepped (shown_view word v)
 end_seen v r c word runs = ap (λ (o : Option Expected). collected_view o c (shown_view word v)) runs.clear.collected
 
-pub end_marks : (v : View) (r : Running) (word : ℕ) → RunsEnd v r → MayMarkEnd (stepped (shown_view word v))
+pub end_marks : (v : View) (r : Running) (word : ℕ) → RunsTheEnd v r → MayMarkEnd (stepped (shown_view word v))
 end_marks v r word runs = record { runs = r; running = runs.running; end = runs.end; flight = runs.nothing.flight }
 
 -- the view once it has set the word of the end
 abbrev ended_view : ℕ → View → View
 ended_view word v = record (done_view (stepped (shown_view word v))) { slots = [] }
 
-pub end_is : {B : Type 0} (v : View) (r : Running) (word : ℕ) (bodies : List (ℕ × Option B)) → RunsEnd v r →
+pub end_is : {B : Type 0} (v : View) (r : Running) (word : ℕ) (bodies : List (ℕ × Option B)) → RunsTheEnd v r →
     done_known (stepped (shown_view word v), bodies) ≡ (ended_view word v, [])
 end_is {B} v r word bodies runs = ap (λ f. rested None f (done_view (stepped (shown_view word v)), bodies)) runs.nothing.flight
 
-pub end_rests : (v : View) (r : Running) (word : ℕ) → RunsEnd v r → Rests (ended_view word v)
+pub end_rests : (v : View) (r : Running) (word : ℕ) → RunsTheEnd v r → Rests (ended_view word v)
 end_rests v r word runs = record {
   running = refl;
   slots = refl;
@@ -78,7 +78,7 @@ end_well v word c gives = record {
         or_that (Some z) = z
 
 -- the share s has collected as m, and has set the word of the end as t
-pub end_view : {B : Type 0} (s m t : Share B) (r : Running) (c word : ℕ) → RunsEnd (share_view s) r →
+pub end_view : {B : Type 0} (s m t : Share B) (r : Running) (c word : ℕ) → RunsTheEnd (share_view s) r →
     share_known m ≡ (collected_view (share_view s).awaited c (shown_view word (share_view s)), share_bodies s) →
     share_known t ≡ done_known (share_known m) → share_view t ≡ ended_view word (share_view s)
 end_view {B} s m t r c word runs saw set =

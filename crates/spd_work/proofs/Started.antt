@@ -17,7 +17,7 @@ use Rattle.spd_rule.specs.declared.field.Share.{Share}
 use Rattle.spd_vertex.specs.Starting.{GivesFit, Starting}
 use Rattle.spd_vertex.specs.declared.starting.Start.{Start}
 use Rattle.spd_vertex.specs.declared.starting.Start.TheVariants.{Ours, End, Taken}
-use Rattle.spd_work.specs.Runs.{HoldsNothing, Rests, RunsNew, RunsEnd, Stays, Lasts}
+use Rattle.spd_work.specs.Runs.{HoldsNothing, Rests, RunsNew, RunsTheEnd, Stays, Lasts}
 use Rattle.spd_work.specs.Hands.{Sits}
 use Rattle.spd_work.specs.declared.hands.Hands.{Hands}
 use Rattle.spd_work.specs.Starts.{RunsStarted}
@@ -66,7 +66,7 @@ module _ (v : View) (i : ℕ) (x : Vertex) (rests : Rests v) where
     owed = refl;
   }
 
-  pub started_end : i ≡ 1 → RunsEnd (start_view i x None (note_ready i x v)) (start_run i x)
+  pub started_end : i ≡ 1 → RunsTheEnd (start_view i x None (note_ready i x v)) (start_run i x)
   started_end one = record {
     running = refl;
     end = one;

@@ -17,6 +17,6 @@ pub record Meets {B : Type 0} (view : B → BodyView) (fits : B → Part B → T
   pub fitting : FitsNext fits rest event
 
 -- The share goes on with this body, of which less than the bound is left, or runs nothing any more.
-abbrev pub GoesOn : {B : Type 0} → (B → BodyView) → View → ℕ → Option B → Type 0
-GoesOn view v bound None = Rests v
-GoesOn view v bound (Some body) = ((r : Running) × RunsBody v r (view body)) × ((view body).size < bound)
+abbrev pub BodyGoesOn : {B : Type 0} → (B → BodyView) → View → ℕ → Option B → Type 0
+BodyGoesOn view v bound None = Rests v
+BodyGoesOn view v bound (Some body) = ((r : Running) × RunsBody v r (view body)) × ((view body).size < bound)

@@ -78,7 +78,7 @@ pub record RunsNew (v : View) (r : Running) (vertex : ℕ) (b : BodyView) : Type
   pub owed : promised v.owes ≡ b.means.promise
 
 -- It has just started the end.
-pub record RunsEnd (v : View) (r : Running) : Type 0 where
+pub record RunsTheEnd (v : View) (r : Running) : Type 0 where
   pub running : v.running ≡ Some r
   pub end : r.vertex ≡ 1
   pub nothing : HoldsNothing v

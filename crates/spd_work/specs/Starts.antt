@@ -5,10 +5,10 @@ use Rattle.spd_state.specs.declared.view.Running.{Running}
 use Rattle.spd_state.specs.declared.view.View.{View}
 use Rattle.spd_vertex.specs.declared.starting.Start.{Start}
 use Rattle.spd_vertex.specs.declared.starting.Start.TheVariants.{Ours, End, Taken}
-use Rattle.spd_work.specs.Runs.{Rests, RunsEnd, RunsNew}
+use Rattle.spd_work.specs.Runs.{Rests, RunsTheEnd, RunsNew}
 
 -- It runs the vertex with the body that it got, or the end, or nothing, where the vertex wasn't ready.
 abbrev pub RunsStarted : {B : Type 0} → (B → BodyView) → ℕ → View → Start B → Type 0
 RunsStarted view i v (Ours b) = (r : Running) × RunsNew v r i (view b)
-RunsStarted view i v End = (r : Running) × RunsEnd v r
+RunsStarted view i v End = (r : Running) × RunsTheEnd v r
 RunsStarted view i v (Taken state) = Rests v

@@ -9,7 +9,7 @@ ghost use Rattle.spd_state.specs.declared.view.Running.{Running};
 ghost use Rattle.spd_rule.specs.Shares.{share_view};
 ghost use Rattle.spd_rule.specs.Steps.{HasPaid};
 ghost use Rattle.spd_work.specs.Hands.{Sits};
-ghost use Rattle.spd_work.specs.Meets.{Meets, GoesOn};
+ghost use Rattle.spd_work.specs.Meets.{Meets, BodyGoesOn};
 ghost use Rattle.spd_work.specs.Runs.{Rests, RunsOn, RunsBody, RunsCut, RunsPart, IsClear, Lasts};
 
 use crate::hands::Hands;
@@ -58,7 +58,7 @@ fn on_event<R: Wait, B: Body, Q: Ready>(
     ensures sits { Sits Q.room Q.pushed field.now hands.new }
     ensures lasts { Lasts (share_view hands.old.share) (share_view hands.new.share) }
     ensures goes { (b : BodyView) → Advances b (B.view rest) (event_seen B.view event)
-        → GoesOn B.view (share_view hands.new.share) b.size result }
+        → BodyGoesOn B.view (share_view hands.new.share) b.size result }
 {
     match event {
         Event::Offer(value) => {
@@ -120,7 +120,7 @@ fn on_async<R: Wait, B: Body, Q: Ready>(
     requires fits { B.fits rest (part.Async body) }
     ensures sits { Sits Q.room Q.pushed field.now hands.new }
     ensures lasts { Lasts (share_view hands.old.share) (share_view hands.new.share) }
-    ensures goes { GoesOn B.view (share_view hands.new.share) ((B.view rest).size + (B.view body).size + 2) result }
+    ensures goes { BodyGoesOn B.view (share_view hands.new.share) ((B.view rest).size + (B.view body).size + 2) result }
 {
     match spawn(field, &mut hands.share, body, rest) {
         Spawned::Two { left, right } => {
@@ -151,7 +151,7 @@ fn on_finish<R: Wait, B: Body, Q: Ready>(
     requires fits { B.fits rest (part.Finish kind body) }
     ensures sits { Sits Q.room Q.pushed field.now hands.new }
     ensures lasts { Lasts (share_view hands.old.share) (share_view hands.new.share) }
-    ensures goes { GoesOn B.view (share_view hands.new.share) ((B.view rest).size + (B.view body).size + 2) result }
+    ensures goes { BodyGoesOn B.view (share_view hands.new.share) ((B.view rest).size + (B.view body).size + 2) result }
 {
     match chain(field, &mut hands.share, kind, body, rest) {
         Chained::Opened { body } => {
@@ -178,7 +178,7 @@ fn on_full<R: Wait, B: Body, Q: Ready>(
     requires fits { B.fits rest part }
     ensures sits { Sits Q.room Q.pushed field.now hands.new }
     ensures lasts { Lasts (share_view hands.old.share) (share_view hands.new.share) }
-    ensures goes { GoesOn B.view (share_view hands.new.share)
+    ensures goes { BodyGoesOn B.view (share_view hands.new.share)
         ((B.view rest).size + (in_part (part_seen B.view part)).size + 2) result }
 {
     match rest.inside(alloc, part) {

@@ -7,7 +7,7 @@ ghost use Rattle.spd_state.specs.declared.view.Running.{Running};
 ghost use Rattle.spd_rule.specs.Payments.{KnowsBooks};
 ghost use Rattle.spd_rule.specs.Shares.{IsOf, IsSame, field_plan, share_view};
 ghost use Rattle.spd_work.specs.Hands.{Sits};
-ghost use Rattle.spd_work.specs.Runs.{Rests, RunsOn, RunsEnd, RunsNew, Lasts, Stays};
+ghost use Rattle.spd_work.specs.Runs.{Rests, RunsOn, RunsTheEnd, RunsNew, Lasts, Stays};
 ghost use Rattle.spd_work.specs.Starts.{RunsStarted};
 ghost use Rattle.spd_work.specs.Workers.{EndsWell, HasKind, MayResume, WorkerRests};
 
@@ -192,7 +192,7 @@ fn collect_first<B: Body>(
 fn finish_end<B: Body, Q: Ready>(field: &Field<B>, kind: FinishKind, worker: &mut Worker<B, Q>)
     requires sits { Sits Q.room Q.pushed field.now worker.old.hands }
     requires kind { HasKind (share_view worker.old.hands.share) kind }
-    requires runs { (r : Running) × RunsEnd (share_view worker.old.hands.share) r }
+    requires runs { (r : Running) × RunsTheEnd (share_view worker.old.hands.share) r }
     ensures sits { Sits Q.room Q.pushed field.now worker.new.hands }
     ensures stays { Stays (share_view worker.old.hands.share) (share_view worker.new.hands.share) }
     ensures rests { Rests (share_view worker.new.hands.share) }
