@@ -8,7 +8,7 @@ use std::process::Abort;
 use std::test::Fail;
 
 /// A program, and the first fault of its checks with its line, if it has one.
-type Row = (&'static [u8], Option<(u32, CheckKind)>);
+pub(crate) type Row = (&'static [u8], Option<(u32, CheckKind)>);
 
 /// Each kind of fault, at each kind of statement that may have it.
 static KINDS: [Row; 52] = [
@@ -235,89 +235,6 @@ static RETURNS: [Row; 9] = [
     ),
 ];
 
-/// Of several faults the first: at one statement the place, a called name and its arity, expressions
-/// from left to right, blocks, and the name; but that of a `for` before its block.
-static ORDERS: [Row; 22] = [
-    (b"main {\n offer y;\n}", Some((2, CheckKind::OfferOutside))),
-    (b"main {\n run t(y);\n}", Some((2, CheckKind::AsyncOutside))),
-    (
-        b"main {\n async {\n  offer y;\n }\n}",
-        Some((2, CheckKind::AsyncOutside)),
-    ),
-    (b"main {\n return y;\n}", Some((2, CheckKind::ReturnPlace))),
-    (
-        b"main {\n finish {\n  print y;\n }\n}",
-        Some((3, CheckKind::PrintPlace)),
-    ),
-    (
-        b"fn f(a) { return a; }\nmain {\n let x = f(y, z);\n}",
-        Some((3, CheckKind::Arity)),
-    ),
-    (
-        b"fn f(a) { return a; }\nmain {\n let x = 1;\n let x = f(y);\n}",
-        Some((4, CheckKind::Unknown)),
-    ),
-    (
-        b"main {\n let x = 1;\n let x = y;\n}",
-        Some((3, CheckKind::Unknown)),
-    ),
-    (
-        b"main {\n let x = 1;\n let x = finish sum {\n  offer y;\n }\n}",
-        Some((4, CheckKind::Unknown)),
-    ),
-    (
-        b"column c: int from \"a\" field \"b\";\nmain {\n print size(c, y);\n}",
-        Some((3, CheckKind::ColumnKind)),
-    ),
-    (
-        b"column c: int from \"a\" field \"b\";\nmain {\n print y + size(c, 0);\n}",
-        Some((3, CheckKind::Unknown)),
-    ),
-    (
-        b"main {\n let i = 1;\n for i in 0..2 {\n  print y;\n }\n}",
-        Some((3, CheckKind::Twice)),
-    ),
-    (
-        b"main {\n let i = 1;\n for i in y..2 {\n }\n}",
-        Some((3, CheckKind::Unknown)),
-    ),
-    (
-        b"main {\n let x = 1;\n finish {\n  x = y;\n }\n}",
-        Some((4, CheckKind::Unknown)),
-    ),
-    (
-        b"fn f(a, a) {\n print y;\n return 1;\n}\nmain { }",
-        Some((1, CheckKind::Twice)),
-    ),
-    // statements come before `NoReturn`, which comes before later items
-    (
-        b"fn f() {\n let x = y;\n}\nmain { }",
-        Some((2, CheckKind::Unknown)),
-    ),
-    (
-        b"fn f() {\n}\nmain {\n print y;\n}",
-        Some((1, CheckKind::NoReturn)),
-    ),
-    (
-        b"main {\n print y;\n}\nfn f() {\n}",
-        Some((2, CheckKind::Unknown)),
-    ),
-    // what is declared comes before all of these
-    (
-        b"fn f() {\n}\nfn f() { return 1; }\nmain { }",
-        Some((3, CheckKind::Twice)),
-    ),
-    (
-        b"fn f() {\n}\nmain {\n print y;\n}\nmain { }",
-        Some((6, CheckKind::Twice)),
-    ),
-    (b"fn f() {\n print y;\n}\n", Some((3, CheckKind::NoMain))),
-    (
-        b"fn f() { return 1; }\nfn f() { return 1; }\n",
-        Some((2, CheckKind::Twice)),
-    ),
-];
-
 /// Programs without faults.
 static PASSED: [Row; 14] = [
     (b"main { }", None),
@@ -382,7 +299,8 @@ fn fault_of(alloc: Global, text: &[u8]) -> Result<Option<(u32, CheckKind)>, Fail
     }
 }
 
-fn expect_faults(rt: &(impl Abort + AllocGlobal), rows: &[Row]) -> Result<(), Fail> {
+/// Asserts the first fault of each of these programs.
+pub(crate) fn expect_faults(rt: &(impl Abort + AllocGlobal), rows: &[Row]) -> Result<(), Fail> {
     for (text, fault) in rows {
         let found = fault_of(rt.alloc(), text)?;
         assert_eq!(rt; found, *fault, "of {text:?}");
@@ -398,11 +316,6 @@ fn each_kind_of_fault_is_told(rt: HostRuntime) -> Result<(), Fail> {
 #[test]
 fn blocks_that_do_not_return_are_told(rt: HostRuntime) -> Result<(), Fail> {
     expect_faults(&rt, &RETURNS)
-}
-
-#[test]
-fn the_first_of_several_faults_is_told(rt: HostRuntime) -> Result<(), Fail> {
-    expect_faults(&rt, &ORDERS)
 }
 
 #[test]

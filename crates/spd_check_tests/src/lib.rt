@@ -5,3 +5,5 @@
 mod coding;
 #[cfg(test)]
 mod faults;
+#[cfg(test)]
+mod orders;
