@@ -17,6 +17,8 @@ import sys
 EXAMPLES = pathlib.Path("examples")
 CANONICAL = EXAMPLES / "canonical"
 FAULTS = EXAMPLES / "faults"
+# The data files that programs read, by their names alone.
+DATA = sorted((EXAMPLES / "data").iterdir())
 
 # A block of a document, and what stands in it.
 BLOCK = r"```\n((?:(?!```).*\n)*)```\n"
@@ -71,8 +73,9 @@ def written_as_expected(folder, command):
     """The faults of a run of each example of a folder, and how many there are."""
     programs = sorted(folder.glob("*.sp"))
     faults = [f"{p}: no {p.name}.stdout" for p in programs if not p.with_name(f"{p.name}.stdout").exists()]
+    given = [word for it in DATA for word in ("--data", f"{it.name}=../../{it}")]
     run = subprocess.run(
-        ["rt", "try", "--cases", f"../../{folder}", "--", command, "{}"],
+        ["rt", "try", "--cases", f"../../{folder}", *given, "--", command, "{}"],
         cwd="crates/spd",
         capture_output=True,
         text=True,

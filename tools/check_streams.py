@@ -25,6 +25,11 @@ SECONDS = 60
 # Enough to start in, and too little for some copies of a word of 100,000 bytes.
 MEMORY = 262_144
 
+# A program over two columns of a sheet.
+SHEET = b'''column p: int from "%(file)s" field "Price, net"; column t: text from "%(file)s" field "Item";
+main { print len(p), " ", p[0], " ", p[1], " ", p[0] + p[1]; if begins(t, 0, "A \\"g") == 0 { print 0; } }
+'''
+
 FILES = {
     b"a.sp": b'main { print "n=", 1+2; }\n',
     b"blank.sp ": b"main { print 4; }\n",
@@ -40,6 +45,13 @@ FILES = {
     b"late.sp": b"main {\n let z = 0;\n print 7;\n print 7 / z;\n}\n",
     b"early.sp": b"main {\n let z = 0;\n print 7 % z;\n}\n",
     b"column.sp": b'lines l from"l.txt";main{print len( l );}\n',
+    b"l.txt": b"a\r\n\nb",
+    b"sheet.sp": SHEET % {b"file": b"sheet.csv"},
+    b"sheet.csv": b'Item,"Price, net"\n"A ""good"" one",7\nB,-4\n',
+    b"excel.sp": SHEET % {b"file": b"excel.csv"},
+    b"excel.csv": b'\xef\xbb\xbfItem,"Price, net"\r\n"A ""good"" one",7\r\nB,-4\r\n',
+    b"of_folder.sp": b'lines l from "folder.sp"; main { }\n',
+    b"of_empty.sp": b'column c: int from "empty.sp" field "c"; main { }\n',
     b"stray.sp": b"main {\n print x;\n}\n",
     b"wide.sp": b"main{" + b"print 1;" * 10_000 + b"}",
 }
@@ -55,6 +67,7 @@ FILES[b"plain.sp"] = PLAIN
 # beside it what it writes before.
 FAULTS = sorted(pathlib.Path("examples/faults").glob("*.sp"))
 FILES |= {os.fsencode(it.name): it.read_bytes() for it in FAULTS}
+FILES |= {os.fsencode(it.name): it.read_bytes() for it in pathlib.Path("examples/data").iterdir()}
 
 # What a stream is: a pipe that is read whole, closed, a device that is full, a pipe that nobody
 # reads, a pipe that is read in small parts while the program is stopped and goes on, a file, or a
@@ -90,7 +103,14 @@ ROWS = [
     Row("a fault of a run", [b"elide", b"late.sp"], 3, b"7\n", b"spd: late.sp:4: division by zero\n"),
     Row("a fault before the first print", [b"elide", b"early.sp"], 3, err=b"spd: early.sp:3: division by zero\n"),
     Row("a fault of the checks", [b"elide", b"stray.sp"], 1, err=b"spd: stray.sp:2: Unknown\n"),
-    Row("a lines item", [b"elide", b"column.sp"], 1, err=b"spd: column.sp: NotBuilt\n"),
+    # Data files.
+    Row("a lines item", [b"elide", b"column.sp"], 0, b"3\n"),
+    Row("a sheet as LibreOffice writes it", [b"elide", b"sheet.sp"], 0, b"2 7 -4 3\n"),
+    Row("a sheet as Excel writes it", [b"elide", b"excel.sp"], 0, b"2 7 -4 3\n"),
+    Row("a folder as a data file", [b"elide", b"of_folder.sp"], 4, err=b"spd: folder.sp: read failed\n"),
+    Row("an empty data file", [b"elide", b"of_empty.sp"], 6, err=b"spd: empty.sp:0: NoField\n"),
+    Row("a line of a refused data file that err can't take", [b"elide", b"of_empty.sp"], 5, err_is=FULL),
+    Row("a line of a missing data file that err can't take", [b"elide", b"of_folder.sp"], 4, err_is=FULL),
     # The canonical text.
     Row("a canonical text", [b"check", b"a.sp"], 0, PLAIN),
     Row("that of a canonical text", [b"check", b"plain.sp"], 0, PLAIN),
@@ -188,7 +208,9 @@ def row_of(example):
     written = example.with_name(f"{example.name}.stdout")
     if written.exists():
         return Row(str(example), words, 3, written.read_bytes(), err)
-    return Row(str(example), words, 1, err=err)
+    # A fault of a data file tells the file's name.
+    of_program = err.startswith(b"spd: " + words[1] + b":")
+    return Row(str(example), words, 1 if of_program else 4 if err.endswith(b": read failed\n") else 6, err=err)
 
 
 def under_check(row):
@@ -198,8 +220,7 @@ def under_check(row):
 
 OF_FAULTS = [row_of(it) for it in FAULTS]
 ROWS += OF_FAULTS
-# What isn't built is told under `elide` alone.
-ROWS += [under_check(it) for it in OF_FAULTS if it.status == 1 and not it.err.endswith(b": NotBuilt\n")]
+ROWS += [under_check(it) for it in OF_FAULTS if it.status == 1]
 
 
 

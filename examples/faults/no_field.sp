@@ -1,0 +1,2 @@
+column price: int from "prices.csv" field "Price";
+main { }

@@ -1,0 +1,2 @@
+lines l from "no_such_file.txt";
+main { }

@@ -1,4 +1,0 @@
-column price: int from "p.csv" field "price";
-main {
-  print len(price);
-}
