@@ -1,7 +1,18 @@
-//! Regions driven over one table by workers of `spd_fork`: every answer of a turn by hand, and a tree of
-//! 100,000 spawns on four threads.
+//! Regions driven over one table, a turn at a time, beside a plain model of what each turn must answer
+//! and of what each vertex's word must say after it.
 #![tactic(auto)]
 
+mod crew;
+mod deeds;
+mod model;
+mod playing;
+
+pub use crew::Crew;
+pub use deeds::{Answer, Deed, Forks};
+pub use model::Model;
+
+#[cfg(test)]
+mod explorer;
 #[cfg(test)]
 mod tests;
 #[cfg(test)]
