@@ -337,8 +337,8 @@ def main():
         faults.append(f"{PROGRAMS[0]}: not built: run `rt ci`, or `rt run` in crates/spd")
     if not FAULTS:
         faults.append("examples/faults: no program was found")
-    if {row.status for row in ROWS} != {0, 1, 2, 3, 4, 5, 7}:
-        faults.append("the rows don't have each of the statuses 0, 1, 2, 3, 4, 5 and 7")
+    if {row.status for row in ROWS} != set(range(8)):
+        faults.append("the rows don't have each of the statuses 0 to 7")
     if not faults:
         with tempfile.TemporaryDirectory(prefix="spd-streams-") as folder:
             folder = pathlib.Path(folder)
