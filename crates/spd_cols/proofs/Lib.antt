@@ -5,6 +5,7 @@
 -- `lines`: the pieces of a file are the first one and the pieces behind its LF (LinePieces).
 -- `load`: the columns so far are those of the items before the next one, over files that the shelf may have held all along
 --   (LoadSteps); what an item adds, or why it adds none, carries this on.
+-- `make_csv`: the loop over rows keeps the file of the rows so far (proofs/made), and nothing else is wanted.
 -- The one idea: what is left is a list again, and each turn takes its first element.
 pub mod Numbers
 pub mod Records

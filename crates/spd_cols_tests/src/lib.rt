@@ -10,4 +10,6 @@ mod line_files;
 #[cfg(test)]
 mod loads;
 #[cfg(test)]
+mod made_files;
+#[cfg(test)]
 mod text_columns;
