@@ -1,5 +1,6 @@
 pub mod Hands
 pub mod Meets
+pub mod Regions
 pub mod Runs
 pub mod Starts
 pub mod Turns

@@ -4,8 +4,12 @@
 mod events;
 mod gate;
 mod hands;
+mod region_end;
 mod told;
 mod turns;
 mod worker;
+mod workers;
 
 pub use gate::{Gate, Open};
+pub use region_end::RegionEnd;
+pub use workers::region;
