@@ -3,7 +3,9 @@
 
 mod events;
 mod gate;
+mod gathering;
 mod hands;
+mod placing;
 mod region_end;
 mod told;
 mod turns;
