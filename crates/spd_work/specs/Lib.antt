@@ -1,5 +1,7 @@
+pub mod Crew
 pub mod Hands
 pub mod Meets
+pub mod Regions
 pub mod Runs
 pub mod Starts
 pub mod Turns

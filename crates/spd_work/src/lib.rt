@@ -3,9 +3,15 @@
 
 mod events;
 mod gate;
+mod gathering;
 mod hands;
+mod placing;
+mod region_end;
 mod told;
 mod turns;
 mod worker;
+mod workers;
 
 pub use gate::{Gate, Open};
+pub use region_end::RegionEnd;
+pub use workers::region;
