@@ -1,5 +1,6 @@
 pub mod Crew
 pub mod Hands
+pub mod Logs
 pub mod Meets
 pub mod Regions
 pub mod Runs

@@ -5,6 +5,7 @@ mod events;
 mod gate;
 mod gathering;
 mod hands;
+mod log;
 mod placing;
 mod region_end;
 mod told;
@@ -13,5 +14,6 @@ mod worker;
 mod workers;
 
 pub use gate::{Gate, Open};
+pub use log::RunLog;
 pub use region_end::RegionEnd;
 pub use workers::region;
