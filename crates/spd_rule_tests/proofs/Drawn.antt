@@ -14,16 +14,15 @@ use Rattle.spd_rule_tests.specs.Notes.{Makes}
 use Rattle.spd_rule_tests.specs.Ties.{Ties, IsPlainView}
 
 module _ {B : Type 0} (me : Me (Option B) View) (n : Notes) (h : Ties me n) where
-  plain : (w : View) → w.lifted ≡ me.0.lifted → w.above ≡ me.0.above → w.halves ≡ me.0.halves → w.sprout ≡ me.0.sprout → w.hurt ≡ me.0.hurt
+  plain : (w : View) → w.lifted ≡ me.0.lifted → w.above ≡ me.0.above → w.halves ≡ me.0.halves → w.sprout ≡ me.0.sprout
       → w.gives ≡ me.0.gives → w.kind ≡ me.0.kind → IsPlainView w
-  plain w a b c d e f g = record {
+  plain w a b c d f g = record {
     lifted = a ∙ h.plain.lifted;
     above = b ∙ h.plain.above;
     halves = c ∙ h.plain.halves;
     sprout = d ∙ h.plain.sprout;
     gives = f ∙ h.plain.gives;
     kind = g ∙ h.plain.kind;
-    hurt = e ∙ h.plain.hurt;
   }
 
   idle_slots : me.0.flight ≡ None → me.0.slots ≡ due None me.0.running
@@ -44,7 +43,6 @@ module _ {B : Type 0} (me : Me (Option B) View) (n : Notes) (h : Ties me n) wher
       sprout = h.plain.sprout;
       gives = refl;
       kind = h.plain.kind;
-      hurt = h.plain.hurt;
     };
     fresh = refl;
     full = h.full;
@@ -52,6 +50,8 @@ module _ {B : Type 0} (me : Me (Option B) View) (n : Notes) (h : Ties me n) wher
     made = λ _. refl;
     seats = h.seats;
     awaits = h.awaits;
+    waits = h.waits;
+    hurt = h.hurt;
     knows = h.knows;
     slots = ap (λ (l : List ℕ). first_slot Make k ∷ second_slot Make k ∷ l) (idle_slots (h.flight ∙ m.flight));
     heads = ap (λ (l : List ℕ). first_slot Make k ∷ second_slot Make k ∷ l) h.heads;
@@ -65,13 +65,15 @@ module _ {B : Type 0} (me : Me (Option B) View) (n : Notes) (h : Ties me n) wher
     claimed = h.claimed;
     rooted = h.rooted;
     told = h.told;
-    plain = plain (full_view me.0) refl refl refl refl refl refl refl;
+    plain = plain (full_view me.0) refl refl refl refl refl refl;
     fresh = h.fresh;
     full = let a = h.full in omega arith;
     wild = h.wild;
     made = h.made;
     seats = h.seats;
     awaits = h.awaits;
+    waits = h.waits;
+    hurt = h.hurt;
     knows = h.knows;
     slots = h.slots;
     heads = h.heads;
@@ -85,13 +87,15 @@ module _ {B : Type 0} (me : Me (Option B) View) (n : Notes) (h : Ties me n) wher
     claimed = h.claimed;
     rooted = h.rooted;
     told = h.told;
-    plain = plain (drawn_known Chain k nobody me).0 refl refl refl refl refl refl refl;
+    plain = plain (drawn_known Chain k nobody me).0 refl refl refl refl refl refl;
     fresh = h.fresh;
     full = h.full;
     wild = h.wild;
     made = h.made;
     seats = h.seats;
     awaits = h.awaits;
+    waits = h.waits;
+    hurt = h.hurt;
     knows = h.knows;
     slots = ap (λ (l : List ℕ). first_slot Chain k ∷ second_slot Chain k ∷ l) (idle_slots (h.flight ∙ none));
     heads = ap (λ (l : List ℕ). first_slot Chain k ∷ second_slot Chain k ∷ l) h.heads;
@@ -106,13 +110,15 @@ module _ {B : Type 0} (me : Me (Option B) View) (n : Notes) (h : Ties me n) wher
     claimed = h.claimed;
     rooted = h.rooted;
     told = h.told;
-    plain = plain (drawn_known Spawn k nobody me).0 refl refl refl refl refl refl refl;
+    plain = plain (drawn_known Spawn k nobody me).0 refl refl refl refl refl refl;
     fresh = h.fresh;
     full = h.full;
     wild = h.wild;
     made = h.made;
     seats = h.seats;
     awaits = h.awaits;
+    waits = h.waits;
+    hurt = h.hurt;
     knows = h.knows;
     slots = ap (λ (l : List ℕ). first_slot Spawn k ∷ second_slot Spawn k ∷ l) (idle_slots (h.flight ∙ none));
     heads = ap (λ (l : List ℕ). first_slot Spawn k ∷ second_slot Spawn k ∷ l) h.heads;

@@ -39,7 +39,6 @@ module _ {B : Type 0} (me : Me (Option B) View) (n : Notes) (h : Ties me n) wher
       sprout = h.plain.sprout;
       gives = h.plain.gives;
       kind = h.plain.kind;
-      hurt = h.plain.hurt;
     };
     fresh = h.fresh;
     full = h.full;
@@ -47,6 +46,8 @@ module _ {B : Type 0} (me : Me (Option B) View) (n : Notes) (h : Ties me n) wher
     made = h.made;
     seats = h.seats;
     awaits = h.awaits;
+    waits = h.waits;
+    hurt = h.hurt;
     knows = h.knows;
     slots = h.slots ∙ ap (λ f. due f me.0.running) (h.flight ∙ flies);
     heads = h.heads;
@@ -93,7 +94,6 @@ module _ {B : Type 0} (me : Me (Option B) View) (n : Notes) (h : Ties me n) wher
           sprout = h.plain.sprout;
           gives = h.plain.kind;
           kind = h.plain.kind;
-          hurt = h.plain.hurt;
         };
         fresh = h.fresh;
         full = h.full;
@@ -101,6 +101,8 @@ module _ {B : Type 0} (me : Me (Option B) View) (n : Notes) (h : Ties me n) wher
         made = h.made;
         seats = h.seats;
         awaits = h.awaits;
+        waits = h.waits;
+        hurt = h.hurt;
         knows = h.knows;
         slots = h.slots ∙ ap (λ f. due f me.0.running) (h.flight ∙ s);
         heads = h.heads;

@@ -1,8 +1,9 @@
 -- The notes after a look, a start, a claim, an arrival, a departure and a wake.
-use Rattle.std.proofs.Common.{◌≡◌, ◌≢◌, ℕ, ◌≤◌, List, [], ◌∷◌, length, map, get_or, refl, sym, ap, ◌∙◌, subst, arith}
+use Rattle.std.proofs.Common.{◌≡◌, ◌≢◌, ℕ, ◌≤◌, List, [], ◌∷◌, length, map, get_or, pos, refl, sym, ap, ◌∙◌, subst, arith}
 use Rattle.std.proofs.Common.{Option, Some, None, Bool, true, false, not, ◌&&◌, cond, eqb, eq-eqb, ne_eqb, if◌then◌else◌}
 use lib.Dec.{ltb}
 use Rattle.atomic_table.specs.Table.{Me, rest}
+use Rattle.spd_words.specs.Gift.{no_fault}
 use Rattle.spd_words.specs.Meaning.{Meaning, Awaited}
 use Rattle.spd_words.specs.Words.{Node, Pair, Vertex}
 use Rattle.spd_words.specs.declared.finish_kind.FinishKind.{FinishKind}
@@ -10,10 +11,11 @@ use Rattle.spd_words.specs.declared.finish_kind.FinishKind.TheVariants.{Plain}
 use Rattle.spd_state.specs.Sums.{same, gate, count, without}
 use Rattle.spd_state.specs.Tree.{top_in}
 use Rattle.spd_state.specs.Dag.{load_of, busy, right_in, right_at, next_handle, claimed_at}
-use Rattle.spd_state.specs.Promises.{expected_in}
+use Rattle.spd_state.specs.Promises.{expected_in, expected_of}
 use Rattle.spd_state.specs.Shown.{see_after, note_ready}
 use Rattle.spd_state.specs.Steps.{stepped, start_run, start_view, wild_in, kind_in, awaited_in, lose_right, claim_after, add_view}
 use Rattle.spd_state.specs.Steps.{lose_view, tell_if, keep_if, keep_mark, is_over, settle_view, sub_after, wake_view, wake_after}
+use Rattle.spd_state.specs.declared.promise.Expected.{Expected}
 use Rattle.spd_state.specs.declared.view.Running.{Running}
 use Rattle.spd_state.specs.declared.view.Flight.{Flight}
 use Rattle.spd_state.specs.declared.view.View.{View}
@@ -22,9 +24,11 @@ use Rattle.spd_rule.specs.Rest.{due, rested, at_rest}
 use Rattle.spd_rule.specs.Steps.{MayClaim, MayAdd, MaySub, meaning_in}
 use Rattle.spd_rule_tests.specs.declared.stub.Stub.{Stub}
 use Rattle.spd_rule_tests.specs.declared.notes.Notes.{Notes}
-use Rattle.spd_rule_tests.specs.Stubs.{stub_view, stub_awaits}
+use Rattle.spd_rule_tests.specs.declared.stub.StubStage.{StubStage}
+use Rattle.spd_rule_tests.specs.declared.stub.StubStage.TheVariants as stub
+use Rattle.spd_rule_tests.specs.Stubs.{stub_view, stub_awaits, stub_waits_for}
 use Rattle.spd_rule_tests.specs.Notes.{Works, Signals, Wakes, IsAtLeisure}
-use Rattle.spd_rule_tests.specs.Ties.{Ties, listed, wild_mark_of, wait_mark_of, end_alone}
+use Rattle.spd_rule_tests.specs.Ties.{Ties, listed, wild_mark_of, wait_mark_of, wait_kind_of, end_alone}
 use Rattle.spd_rule_tests.proofs.Placed.{lone}
 
 listed_few : (o : Option ℕ) → length (listed o) ≤ 1
@@ -52,13 +56,14 @@ module _ {B : Type 0} (me : Me (Option B) View) (n : Notes) (h : Ties me n) wher
       sprout = h.plain.sprout;
       gives = h.plain.gives;
       kind = h.plain.kind;
-      hurt = h.plain.hurt;
     };
     fresh = h.fresh;
     full = h.full;
     wild = h.wild;
     made = h.made;
     awaits = h.awaits;
+    waits = h.waits;
+    hurt = h.hurt;
     seats = h.seats;
     knows = h.knows;
     slots = h.slots;
@@ -79,9 +84,9 @@ module _ {B : Type 0} (me : Me (Option B) View) (n : Notes) (h : Ties me n) wher
 
   pub may_claim : (r : Running) → Works r n → MayClaim me.0
   may_claim r w = record {
-    right = ap right_in (h.running ∙ w.running) ∙ w.right;
+    right = ap right_in (h.running ∙ w.pays.running) ∙ w.pays.right;
     room = let f = few in omega arith;
-    free = let a = h.awaits in let b = w.free in let c = h.plain.hurt in omega arith;
+    free = let a = h.awaits in let b = w.free in let c = h.hurt in let d = w.unhurt in omega arith;
   }
 
   pub ties_claim : (q : Pair) (r : Running) → n.running ≡ Some r
@@ -100,13 +105,14 @@ module _ {B : Type 0} (me : Me (Option B) View) (n : Notes) (h : Ties me n) wher
       sprout = h.plain.sprout;
       gives = h.plain.gives;
       kind = h.plain.kind;
-      hurt = h.plain.hurt;
     };
     fresh = h.fresh;
     full = h.full;
     wild = h.wild;
     made = h.made;
     awaits = h.awaits;
+    waits = h.waits;
+    hurt = h.hurt;
     seats = h.seats;
     knows = λ k x i. subst (λ (y : Running). top_in y.inc me.0.known ≡ Some y.finish) (let e : record r { right = 0 } ≡ x = cc in e) (h.knows k r is);
     slots = h.slots ∙ (ap (due me.0.flight) (h.running ∙ is) ∙ sym (ap (λ o. due me.0.flight (lose_right o)) (h.running ∙ is)));
@@ -118,7 +124,7 @@ module _ {B : Type 0} (me : Me (Option B) View) (n : Notes) (h : Ties me n) wher
   pub may_arrive : (r : Running) → Works r n → MayAdd r.finish me.0
   may_arrive r w = record {
     right = let d : ℕ = r.finish in
-        let e : right_at d me.0.running ≡ same d d = ap (right_at d) (h.running ∙ w.running) ∙ ap (λ k. gate k (same d d)) w.right in
+        let e : right_at d me.0.running ≡ same d d = ap (right_at d) (h.running ∙ w.pays.running) ∙ ap (λ k. gate k (same d d)) w.pays.right in
         let s = same_self d d refl in omega arith;
     room = let f = few in omega arith;
   }
@@ -138,13 +144,14 @@ module _ {B : Type 0} (me : Me (Option B) View) (n : Notes) (h : Ties me n) wher
       sprout = h.plain.sprout;
       gives = h.plain.gives;
       kind = h.plain.kind;
-      hurt = h.plain.hurt;
     };
     fresh = h.fresh;
     full = h.full;
     wild = h.wild;
     made = h.made;
     awaits = h.awaits;
+    waits = h.waits;
+    hurt = h.hurt;
     seats = h.seats;
     knows = h.knows;
     slots = h.slots;
@@ -184,13 +191,14 @@ module _ {B : Type 0} (me : Me (Option B) View) (n : Notes) (h : Ties me n) wher
             sprout = h.plain.sprout;
             gives = h.plain.gives;
             kind = h.plain.kind;
-            hurt = h.plain.hurt;
           };
           fresh = h.fresh;
           full = h.full;
           wild = h.wild;
           made = h.made;
           awaits = h.awaits;
+          waits = h.waits;
+          hurt = h.hurt;
           seats = h.seats;
           knows = λ k x i. absurd (cc);
           slots = sym (ap (λ f. due f None) flies);
@@ -249,13 +257,14 @@ module _ {B : Type 0} (me : Me (Option B) View) (n : Notes) (h : Ties me n) wher
       sprout = h.plain.sprout;
       gives = h.plain.gives;
       kind = h.plain.kind;
-      hurt = h.plain.hurt;
     };
     fresh = h.fresh;
     full = h.full;
     wild = h.wild;
     made = h.made;
     awaits = h.awaits;
+    waits = h.waits;
+    hurt = h.hurt;
     seats = h.seats;
     knows = h.knows;
     slots = h.slots;
@@ -299,13 +308,14 @@ module _ {B : Type 0} (me : Me (Option B) View) (n : Notes) (h : Ties me n) wher
       sprout = h.plain.sprout;
       gives = h.plain.gives;
       kind = h.plain.kind;
-      hurt = h.plain.hurt;
     };
     fresh = h.fresh;
     full = h.full;
     wild = h.wild;
     made = h.made;
     awaits = h.awaits;
+    waits = h.waits;
+    hurt = h.hurt;
     seats = h.seats;
     knows = h.knows;
     slots = h.slots;
@@ -337,16 +347,27 @@ waits_is : (o : Option Stub) → busy (awaited_in (meaning_in means o)) ≡ wait
 waits_is None = refl
 waits_is (Some b) = expects (stub_awaits b.stage)
 
+-- for this kind of finish, if for any
+waits_for : (o : Option Stub) (x : Expected) → awaited_in (meaning_in means o) ≡ Some x → x.kind ≡ wait_kind_of o
+waits_for None x e = absurd (cc)
+waits_for (Some b) x e = by b.stage e
+  where
+    by : (s : StubStage) → expected_in (stub_awaits s) ≡ Some x → x.kind ≡ stub_waits_for s
+    by stub.Going e = absurd (cc)
+    by (stub.Waits kind) e = let same : expected_of (record { kind = kind; gift = pos 0; fault = no_fault }) ≡ x = cc in sym (ap (λ (y : Expected). y.kind) same)
+    by stub.Spent e = absurd (cc)
+    by stub.Ended e = absurd (cc)
+
 pub ties_start : (me me1 me2 : Me (Option Stub) View) (n : Notes) → Ties me n → IsAtLeisure n → (i : ℕ) (x : Vertex) (body got : Option Stub) (slot : ℕ)
     → me1 ≡ (start_view i x (meaning_in means body) me.0, (i, body) ∷ me.1) → me1.1 ≡ (slot, got) ∷ rest me1.1 → me2 ≡ (me1.0, (slot, None) ∷ rest me1.1)
-    → Ties me2 (record n { running = Some (start_run i x); wild = wild_mark_of got; awaits = wait_mark_of got; knows = true })
+    → Ties me2 (record n { running = Some (start_run i x); wild = wild_mark_of got; awaits = wait_mark_of got; waits = wait_kind_of got; knows = true })
 ties_start me me1 me2 n h at i x body got slot known before after =
     let there : (i, body) ∷ me.1 ≡ (slot, got) ∷ rest me1.1 = sym (ap (λ (m : Me (Option Stub) View). m.1) known) ∙ before in
     let same_body : body ≡ got = ap top_body there in
     let same_slot : i ≡ slot = ap (λ (l : List ℕ). get_or l 0 0) (ap (map (λ y. y.0)) there) in
     let is : me2 ≡ (start_view i x (meaning_in means body) me.0, (i, None) ∷ me.1) = after ∙ (λ j. ((known j).0, (sym same_slot j, None) ∷ rest (known j).1)) in
     subst (λ (m : Me (Option Stub) View). Ties m
-    (record n { running = Some (start_run i x); wild = wild_mark_of got; awaits = wait_mark_of got; knows = true }))
+    (record n { running = Some (start_run i x); wild = wild_mark_of got; awaits = wait_mark_of got; waits = wait_kind_of got; knows = true }))
     (sym is) (record {
       running = refl;
       flight = h.flight;
@@ -361,13 +382,14 @@ ties_start me me1 me2 n h at i x body got slot known before after =
         sprout = h.plain.sprout;
         gives = h.plain.gives;
         kind = kind_is body me.0.kind h.plain.kind;
-        hurt = h.plain.hurt;
       };
       fresh = h.fresh;
       full = h.full;
       wild = wild_is body ∙ ap wild_mark_of same_body;
       made = h.made;
       awaits = waits_is body ∙ ap wait_mark_of same_body;
+      waits = λ y e. waits_for body y e ∙ ap wait_kind_of same_body;
+      hurt = h.hurt;
       seats = h.seats;
       knows = λ _ r e. subst (λ (y : Running). top_in y.inc (record { node = x.inc; top = x.finish } ∷ me.0.known) ≡ Some y.finish)
           (let k : start_run i x ≡ r = cc in k) (ap (λ b. cond b (Some x.finish) (top_in x.inc me.0.known)) (eq-eqb x.inc x.inc refl));

@@ -1,9 +1,9 @@
--- The notes after a body is traded, and after vertex 1 is stored. (`search` finds those of the other vertices.)
+-- The notes after a body is traded, and after each kind of vertex is stored.
 use Rattle.std.proofs.Common.{◌≡◌, ℕ, List, [], ◌∷◌, map, refl, sym, ap, ◌∙◌, subst, Option, Some, None}
 use Rattle.atomic_table.specs.Table.{Me, rest}
-use Rattle.spd_state.specs.Stages.{end_view, chain_rest_view}
+use Rattle.spd_state.specs.Stages.{end_view, chain_rest_view, spawn_left_view, last_view}
 use Rattle.spd_state.specs.Tree.{top_in}
-use Rattle.spd_state.specs.declared.view.Draw.TheVariants.{Make, Chain}
+use Rattle.spd_state.specs.declared.view.Draw.TheVariants.{Make, Chain, Spawn}
 use Rattle.spd_state.specs.declared.view.Running.{Running}
 use Rattle.spd_state.specs.declared.view.Flight.{Flight}
 use Rattle.spd_state.specs.declared.view.View.{View}
@@ -39,6 +39,8 @@ module _ {B : Type 0} (me me1 : Me (Option B) View) (n : Notes) (h : Ties me n) 
     wild = h.wild;
     made = h.made;
     awaits = h.awaits;
+    waits = h.waits;
+    hurt = h.hurt;
     seats = h.seats;
     knows = h.knows;
     slots = h.slots;
@@ -65,13 +67,14 @@ module _ {B : Type 0} (me : Me (Option B) View) (n : Notes) (h : Ties me n) wher
       sprout = h.plain.sprout;
       gives = h.plain.gives;
       kind = h.plain.kind;
-      hurt = h.plain.hurt;
     };
     fresh = h.fresh;
     full = h.full;
     wild = h.wild;
     made = h.made;
     awaits = h.awaits;
+    waits = h.waits;
+    hurt = h.hurt;
     seats = h.seats;
     knows = h.knows;
     slots = ap less_first (slots_of (flight_with Make 0 0 2) e);
@@ -101,13 +104,14 @@ module _ {B : Type 0} (me : Me (Option B) View) (n : Notes) (h : Ties me n) wher
       sprout = h.plain.sprout;
       gives = h.plain.gives;
       kind = h.plain.kind;
-      hurt = h.plain.hurt;
     };
     fresh = h.fresh;
     full = h.full;
     wild = h.wild;
     made = h.made;
     awaits = h.awaits;
+    waits = h.waits;
+    hurt = h.hurt;
     seats = h.seats;
     knows = λ k x i. subst (λ (y : Running). top_in y.inc me.0.known ≡ Some y.finish) (let e : record r { right = 0 } ≡ x = cc in e) (h.knows k r is);
     slots = ap less_first (slots_of (flight_with Chain d d 2) e ∙ ap (due (Some (flight_with Chain d d 2))) (h.running ∙ is));
@@ -119,10 +123,47 @@ module _ {B : Type 0} (me : Me (Option B) View) (n : Notes) (h : Ties me n) wher
   ties_rest r d e is = subst (λ (m : Me (Option B) View). Ties m (record n { running = Some (record r { right = 0 }); flight = Some (flight_with Chain d d 3) }))
       (sym (λ j. at_rest (stored_in ((h.flight ∙ e) j) ((h.running ∙ is) j) (less_first me.0.slots) me.0, rest me.1))) (waiting r d e is)
 
-  -- the body of a chain, its last vertex
-  pub ties_body : (d : ℕ) → n.flight ≡ Some (flight_with Chain d d 3) → Ties (at_rest (vertex_set me)) (record n { running = None; flight = None })
-  ties_body d e = subst (λ (m : Me (Option B) View). Ties m (record n { running = None; flight = None }))
-      (sym (ap (λ (o : Option Flight). at_rest (stored_in o me.0.running (less_first me.0.slots) me.0, rest me.1)) (h.flight ∙ e))) record {
+  -- the left vertex of a spawn
+  left : (d u : ℕ) → n.flight ≡ Some (flight_with Spawn d u 2)
+      → Ties (spawn_left_view d u (less_first me.0.slots) me.0, rest me.1) (record n { flight = Some (flight_with Spawn d u 3) })
+  left d u e = record {
+    running = h.running;
+    flight = refl;
+    held = h.held;
+    claimed = h.claimed;
+    rooted = h.rooted;
+    told = h.told;
+    plain = record {
+      lifted = h.plain.lifted;
+      above = h.plain.above;
+      halves = h.plain.halves;
+      sprout = h.plain.sprout;
+      gives = h.plain.gives;
+      kind = h.plain.kind;
+    };
+    fresh = h.fresh;
+    full = h.full;
+    wild = h.wild;
+    made = h.made;
+    awaits = h.awaits;
+    waits = h.waits;
+    hurt = h.hurt;
+    seats = h.seats;
+    knows = h.knows;
+    slots = ap less_first (slots_of (flight_with Spawn d u 2) e);
+    heads = firsts me.1 ∙ ap less_first h.heads;
+  }
+
+  pub ties_left : (d u : ℕ) → n.flight ≡ Some (flight_with Spawn d u 2) → Ties (at_rest (vertex_set me)) (record n { flight = Some (flight_with Spawn d u 3) })
+  ties_left d u e = subst (λ (m : Me (Option B) View). Ties m (record n { flight = Some (flight_with Spawn d u 3) }))
+      (sym (ap (λ (o : Option Flight). at_rest (stored_in o me.0.running (less_first me.0.slots) me.0, rest me.1)) (h.flight ∙ e)
+      ∙ rested_flying me.0.running (flight_with Spawn d u 3) (spawn_left_view d u (less_first me.0.slots) me.0, rest me.1))) (left d u e)
+
+  -- the last vertex of a move
+  last : (f : Flight) → stored_in (Some f) me.0.running (less_first me.0.slots) me.0 ≡ last_view (less_first me.0.slots) me.0
+      → n.flight ≡ Some f → Ties (at_rest (vertex_set me)) (record n { running = None; flight = None })
+  last f is e = subst (λ (v : View). Ties (at_rest (v, rest me.1)) (record n { running = None; flight = None }))
+      (sym (ap (λ (o : Option Flight). stored_in o me.0.running (less_first me.0.slots) me.0) (h.flight ∙ e) ∙ is)) record {
         running = refl;
         flight = refl;
         held = h.held;
@@ -136,18 +177,28 @@ module _ {B : Type 0} (me : Me (Option B) View) (n : Notes) (h : Ties me n) wher
           sprout = h.plain.sprout;
           gives = h.plain.gives;
           kind = h.plain.kind;
-          hurt = h.plain.hurt;
         };
         fresh = h.fresh;
         full = h.full;
         wild = h.wild;
         made = h.made;
         awaits = h.awaits;
+        waits = h.waits;
+        hurt = h.hurt;
         seats = h.seats;
         knows = λ k r is. absurd (cc);
         slots = refl;
         heads = refl;
       }
+
+  pub ties_first : (d : ℕ) → n.flight ≡ Some (flight_with Make d d 3) → Ties (at_rest (vertex_set me)) (record n { running = None; flight = None })
+  ties_first d e = last (flight_with Make d d 3) refl e
+
+  pub ties_body : (d : ℕ) → n.flight ≡ Some (flight_with Chain d d 3) → Ties (at_rest (vertex_set me)) (record n { running = None; flight = None })
+  ties_body d e = last (flight_with Chain d d 3) refl e
+
+  pub ties_right : (d u : ℕ) → n.flight ≡ Some (flight_with Spawn d u 3) → Ties (at_rest (vertex_set me)) (record n { running = None; flight = None })
+  ties_right d u e = last (flight_with Spawn d u 3) refl e
 
 -- what was put there is fit
 abbrev head_of : {B : Type 0} → List (ℕ × Option B) → Option B

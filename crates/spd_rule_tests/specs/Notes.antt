@@ -1,9 +1,13 @@
 -- What a player's notes say of the vertex that runs and of the move in flight.
-use Rattle.std.specs.Prelude.{◌≡◌, ◌≢◌, ℕ, Some, None, Bool, true, false}
+use Rattle.std.specs.Prelude.{◌≡◌, ◌≢◌, ◌+◌, ◌*◌, ℕ, Some, None, Bool, true, false, cond}
+use Prim.Native.Nat.{zero, suc}
+use Rattle.spd_words.specs.declared.finish_kind.FinishKind.{FinishKind}
+use Rattle.spd_words.specs.declared.finish_kind.FinishKind.TheVariants.{Plain}
 use Rattle.spd_state.specs.declared.view.Draw.{Draw}
 use Rattle.spd_state.specs.declared.view.Draw.TheVariants.{Chain, Spawn}
 use Rattle.spd_state.specs.declared.view.Running.{Running}
 use Rattle.spd_rule.specs.Moves.{flight_with}
+use Rattle.spd_rule.specs.Payments.{runs_rest}
 use Rattle.spd_rule_tests.specs.declared.notes.Notes.{Notes}
 
 -- those of a share that holds nothing
@@ -20,22 +24,35 @@ new_notes fresh = record {
   wild = 0;
   made = 0;
   awaits = 0;
+  waits = Plain;
+  hurt = 0;
   seats = 1;
   knows = false;
 }
 
--- It runs this vertex with its right, and has nothing to collect; the vertex's body is wild.
-pub record Works (r : Running) (n : Notes) : Type 0 where
+-- It runs this vertex with its right; the vertex's body is wild.
+pub record Pays (r : Running) (n : Notes) : Type 0 where
   pub running : n.running ≡ Some r
   pub right : r.right ≡ 1
-  pub free : n.awaits ≡ 0
   pub wild : n.wild ≡ 1
+
+-- And it has neither to collect nor to put the code 0.
+pub record Works (r : Running) (n : Notes) : Type 0 where
+  pub pays : Pays r n
+  pub free : n.awaits ≡ 0
+  pub unhurt : n.hurt ≡ 0
+
+-- And it has no move in flight.
+pub record IsGiver (r : Running) (n : Notes) : Type 0 where
+  pub pays : Pays r n
+  pub flight : n.flight ≡ None
 
 -- It may begin the make.
 pub record Makes (n : Notes) : Type 0 where
   pub fresh : n.fresh ≡ 1
   pub unmarked : n.full ≡ 0
   pub free : n.awaits ≡ 0
+  pub unhurt : n.hurt ≡ 0
   pub running : n.running ≡ None
   pub flight : n.flight ≡ None
 
@@ -121,3 +138,26 @@ pub record RunsEnd (r : Running) (n : Notes) : Type 0 where
   pub running : n.running ≡ Some r
   pub end : r.vertex ≡ 1
   pub flight : n.flight ≡ None
+
+-- It runs the waiting vertex of the finish d, is to collect it, and the finish is of this kind; 0 is that of the region.
+pub record IsCollector (r : Running) (d : ℕ) (kind : FinishKind) (n : Notes) : Type 0 where
+  pub running : n.running ≡ Some r
+  pub rest : r.vertex ≡ 2 * d + 1
+  pub inner : d ≢ 0
+  pub awaits : n.awaits ≡ 1
+  pub waits : n.waits ≡ kind
+
+-- after a look at the fault word, which was this, of a finish for which it was to collect
+abbrev pub collected_notes : ℕ → ℕ → Notes → Notes
+collected_notes zero word n = n
+collected_notes (suc a) zero n = record n { awaits = 0; hurt = 1 }
+collected_notes (suc a) (suc word) n = record n { awaits = 0 }
+
+-- after a look at the fault word of the finish d
+abbrev pub looked_notes : ℕ → ℕ → Notes → Notes
+looked_notes d word n = cond (runs_rest d n.running) (collected_notes n.awaits word n) n
+
+-- after the code was put: 0 ends the hurt
+abbrev pub lowered_notes : ℕ → Notes → Notes
+lowered_notes zero n = record n { hurt = 0 }
+lowered_notes (suc code) n = n

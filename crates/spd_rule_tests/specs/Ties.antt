@@ -1,16 +1,18 @@
 -- A player's notes say what its share knows.
 use Rattle.std.specs.Prelude.{◌≡◌, ℕ, List, [], ◌∷◌, Option, Some, None, map, true, ◌==◌, if◌then◌else◌}
 use Rattle.atomic_table.specs.Table.{Me}
+use Rattle.spd_words.specs.declared.finish_kind.FinishKind.{FinishKind}
 use Rattle.spd_words.specs.declared.finish_kind.FinishKind.TheVariants.{Plain}
 use Rattle.spd_state.specs.Dag.{busy}
 use Rattle.spd_state.specs.Tree.{top_in}
 use Rattle.spd_state.specs.declared.view.Draw.TheVariants.{Make}
+use Rattle.spd_state.specs.declared.promise.Expected.{Expected}
 use Rattle.spd_state.specs.declared.view.Running.{Running}
 use Rattle.spd_state.specs.declared.view.View.{View}
 use Rattle.spd_rule.specs.Moves.{is_wild}
 use Rattle.spd_rule.specs.Rest.{due}
 use Rattle.spd_rule_tests.specs.declared.stub.Stub.{Stub}
-use Rattle.spd_rule_tests.specs.Stubs.{stub_awaits}
+use Rattle.spd_rule_tests.specs.Stubs.{stub_awaits, stub_waits_for}
 use Rattle.spd_rule_tests.specs.declared.notes.Notes.{Notes}
 
 -- what a share knows of the body in the slot of the vertex that it has started: all stubs are wild
@@ -22,6 +24,11 @@ wild_mark_of (Some b) = 1
 abbrev pub wait_mark_of : Option Stub → ℕ
 wait_mark_of None = 0
 wait_mark_of (Some b) = busy (stub_awaits b.stage)
+
+-- and for which kind of finish
+abbrev pub wait_kind_of : Option Stub → FinishKind
+wait_kind_of None = Plain
+wait_kind_of (Some b) = stub_waits_for b.stage
 
 -- vertex 1, where it runs
 abbrev pub end_alone : Option Running → Option Running
@@ -41,7 +48,6 @@ pub record IsPlainView (v : View) : Type 0 where
   pub sprout : v.sprout ≡ None
   pub gives : v.gives ≡ Plain
   pub kind : v.kind ≡ Plain
-  pub hurt : v.hurt ≡ 0
 
 pub record Ties {B : Type 0} (me : Me (Option B) View) (n : Notes) : Type 0 where
   pub running : me.0.running ≡ n.running
@@ -57,6 +63,8 @@ pub record Ties {B : Type 0} (me : Me (Option B) View) (n : Notes) : Type 0 wher
   pub made : n.made ≡ 1 → is_wild Make me.0 ≡ 1
   pub seats : me.0.seats ≡ n.seats
   pub awaits : busy me.0.awaited ≡ n.awaits
+  pub waits : (x : Expected) → me.0.awaited ≡ Some x → x.kind ≡ n.waits
+  pub hurt : me.0.hurt ≡ n.hurt
   pub knows : n.knows ≡ true → (r : Running) → n.running ≡ Some r → top_in r.inc me.0.known ≡ Some r.finish
   pub slots : me.0.slots ≡ due me.0.flight me.0.running
   pub heads : map (λ x. x.0) me.1 ≡ me.0.slots

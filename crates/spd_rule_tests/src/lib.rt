@@ -2,6 +2,7 @@
 //! knows at run time when the step may be taken, and tests that play whole schedules and look at the words.
 #![tactic(auto)]
 
+mod books;
 mod notes;
 mod payments;
 mod player;

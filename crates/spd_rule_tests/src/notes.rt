@@ -1,10 +1,12 @@
 // What a player knows of its share at run time.
 
-ghost use Rattle.std.specs.Prelude.{◌≡◌, IfSome};
+ghost use Rattle.std.specs.Prelude.{◌≡◌, ◌<◌, ◌^◌, IfSome};
 ghost use Rattle.std.specs.Bool.{OnTrue};
-ghost use Rattle.spd_rule_tests.specs.Notes.{new_notes, IsAtLeisure, KnowsInc, Wakes, FliesAs, Signals, IsIdle, HasHandles, Makes, Draws, OpensAt, SpawnsAt, Works, RunsEnd};
+ghost use Rattle.spd_rule_tests.specs.Notes.{new_notes, IsAtLeisure, KnowsInc, Wakes, FliesAs, Signals, IsIdle, HasHandles, Makes, Draws, OpensAt, SpawnsAt, Pays, Works, IsGiver, RunsEnd};
+ghost use Rattle.spd_rule_tests.specs.Notes.{IsCollector, looked_notes, lowered_notes};
 
 use spd_state::{Draw, Flight, Running};
+use spd_words::FinishKind;
 
 /// What a share's view says, as far as it decides which steps the share may take. A mark is a number that
 /// is 0 where it doesn't stand.
@@ -23,8 +25,11 @@ pub struct Notes {
     pub wild: u64,
     /// Whether a wild body was given to the make.
     pub made: u64,
-    /// Whether the running vertex has yet to collect.
+    /// Whether the running vertex has yet to collect, and what kind of finish.
     pub awaits: u64,
+    pub waits: FinishKind,
+    /// Whether it has collected a code 0 that it has yet to pass on.
+    pub hurt: u64,
     pub seats: u64,
     /// Whether it knows the root above the node that its vertex increments at.
     pub knows: bool,
@@ -47,21 +52,87 @@ impl Notes {
             wild: 0,
             made: 0,
             awaits: 0,
+            waits: FinishKind::Plain,
+            hurt: 0,
             seats: 1,
             knows: false,
         }
     }
 
-    /// The vertex that it runs with its right, where that isn't to collect first.
+    /// The vertex that it runs with its right.
+    pub fn paying(&self) -> Option<Running>
+        ensures { IfSome result (λ r. Pays r self.now) }
+    {
+        match self.running {
+            Some(running) if running.right == 1 && self.wild == 1 => Some(running),
+            _ => None,
+        }
+    }
+
+    /// The same, where it has neither to collect nor to put the code 0 first.
     pub fn working(&self) -> Option<Running>
         ensures { IfSome result (λ r. Works r self.now) }
     {
+        let running = self.paying()?;
+        if self.awaits == 0 && self.hurt == 0 {
+            return Some(running);
+        }
+        None
+    }
+
+    /// The vertex that it runs with its right, where it has no move in flight.
+    pub fn giving(&self) -> Option<Running>
+        ensures { IfSome result (λ r. IsGiver r self.now) }
+    {
+        let running = self.paying()?;
+        if self.flight.is_none() {
+            return Some(running);
+        }
+        None
+    }
+
+    /// The waiting vertex of the finish d of this kind, where it is yet to collect that.
+    pub fn collecting(&self, d: u32, kind: FinishKind) -> Option<Running>
+        requires { d < 2 ^ 30 }
+        ensures { IfSome result (λ r. IsCollector r d kind self.now) }
+    {
         match self.running {
-            Some(running) if running.right == 1 && self.awaits == 0 && self.wild == 1 => {
-                Some(running)
-            }
+            Some(running)
+                if d != 0
+                    && self.awaits == 1
+                    && self.waits == kind
+                    && running.vertex == 2 * d + 1 => { Some(running) }
             _ => None,
         }
+    }
+
+    /// Once the fault word of the finish d was seen, and was this.
+    pub fn looked(self, d: u32, word: u64) -> Notes
+        requires { d < 2 ^ 30 }
+        ensures { result ≡ looked_notes d word self }
+    {
+        let mut notes = self;
+        match self.running {
+            Some(running) if running.vertex == 2 * d + 1 && self.awaits != 0 => {
+                notes.awaits = 0;
+                if word == 0 {
+                    notes.hurt = 1;
+                }
+            }
+            _ => {}
+        }
+        notes
+    }
+
+    /// Once the code was put.
+    pub fn lowered(self, code: u64) -> Notes
+        ensures { result ≡ lowered_notes code self }
+    {
+        let mut notes = self;
+        if code == 0 {
+            notes.hurt = 0;
+        }
+        notes
     }
 
     /// Whether it may draw the move of a make.
@@ -71,6 +142,7 @@ impl Notes {
         self.fresh == 1
             && self.full == 0
             && self.awaits == 0
+            && self.hurt == 0
             && self.running.is_none()
             && self.flight.is_none()
     }

@@ -34,16 +34,17 @@ impl Player {
         Some(found)
     }
 
-    /// Puts a code in the fault word of its vertex's finish where it is less.
+    /// Puts a code in the fault word of its vertex's finish where it is less. After 0 it isn't hurt any more.
     pub fn lower_fault(&mut self, field: &Field<Stub>, code: u64) -> Option<u64>
         requires { IsOf field.now self.old.share }
         ensures { IsOf field.now self.new.share }
     {
-        let r = self.notes.working()?;
+        let r = self.notes.paying()?;
         if r.finish >= field.plan().moves() {
             return None;
         }
         let found = lower_fault::<Stub, Brand>(field, &mut self.share, r.finish, code);
+        self.notes = self.notes.lowered(code);
         Some(found)
     }
 
@@ -59,15 +60,16 @@ impl Player {
         Some(found)
     }
 
-    /// Looks at the fault word of the finish d, where its vertex isn't to collect.
+    /// Looks at the fault word of the finish d. Where its vertex was to collect that, it has, and is hurt by 0.
     pub fn see_fault(&mut self, field: &Field<Stub>, d: u32) -> Option<u64>
         requires { IsOf field.now self.old.share }
         ensures { IsOf field.now self.new.share }
     {
-        if d >= field.plan().moves() || self.notes.awaits != 0 {
+        if d >= field.plan().moves() {
             return None;
         }
         let found = see_fault(field, &mut self.share, d);
+        self.notes = self.notes.looked(d, found);
         Some(found)
     }
 

@@ -4,13 +4,13 @@ ghost use Rattle.std.specs.Prelude.{◌≡◌, ◌<◌};
 ghost use Rattle.spd_words.specs.Words.{vertex_of, pair_of};
 ghost use Rattle.spd_state.specs.Dag.{next_handle};
 ghost use Rattle.spd_state.specs.Steps.{start_run};
-ghost use Rattle.spd_rule_tests.specs.Ties.{wild_mark_of, wait_mark_of, end_alone};
+ghost use Rattle.spd_rule_tests.specs.Ties.{wild_mark_of, wait_mark_of, wait_kind_of, end_alone};
 
 use crate::player::Player;
 use crate::stub::{Stub, StubStage};
 use spd_rule::{Field, add_root, claim, see_vertex, start_vertex, sub_root, wake_vertex};
 use spd_state::Running;
-use spd_words::{NodeWord, PairWord, VertexWord};
+use spd_words::{FinishKind, NodeWord, PairWord, VertexWord};
 
 impl Player {
     ghost use Rattle.spd_rule.specs.Shares.{IsOf};
@@ -41,6 +41,7 @@ impl Player {
                 self.notes.running = Some(started(v, seen));
                 self.notes.wild = wild_mark(&body);
                 self.notes.awaits = wait_mark(&body);
+                self.notes.waits = wait_kind(&body);
                 self.notes.knows = true;
                 self.body = body;
                 Some(found)
@@ -141,10 +142,23 @@ fn wait_mark(body: &Option<Stub>) -> u64
 {
     match body {
         Some(stub) => match stub.stage {
-            StubStage::Waits => 1,
+            StubStage::Waits(_) => 1,
             _ => 0,
         },
         None => 0,
+    }
+}
+
+/// The kind of finish for which the body waits; plain where it doesn't.
+fn wait_kind(body: &Option<Stub>) -> FinishKind
+    ensures { result ≡ wait_kind_of body.now }
+{
+    match body {
+        Some(stub) => match stub.stage {
+            StubStage::Waits(kind) => kind,
+            _ => FinishKind::Plain,
+        },
+        None => FinishKind::Plain,
     }
 }
 

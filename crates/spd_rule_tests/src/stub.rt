@@ -7,8 +7,8 @@ use std::alloc::{AllocError, Global};
 #[derive(Clone, Copy, Debug, PartialEq, Eq)]
 pub enum StubStage {
     Going,
-    /// For a plain finish.
-    Waits,
+    /// For a finish of this kind.
+    Waits(FinishKind),
     /// It was resumed with want of memory.
     Spent,
     Ended,
@@ -35,13 +35,13 @@ impl Stub {
         }
     }
 
-    /// A stub that waits for a plain finish.
-    pub fn waiting(name: u32) -> Stub
+    /// A stub that waits for a finish of this kind.
+    pub fn waiting(name: u32, kind: FinishKind) -> Stub
         ensures { IsFit (stub_view result) }
     {
         Stub {
             name,
-            stage: StubStage::Waits,
+            stage: StubStage::Waits(kind),
         }
     }
 }
@@ -65,7 +65,7 @@ impl Body for Stub {
 
     fn waits(&self) -> Option<FinishKind> {
         match self.stage {
-            StubStage::Waits => Some(FinishKind::Plain),
+            StubStage::Waits(kind) => Some(kind),
             _ => None,
         }
     }

@@ -3,6 +3,7 @@
 use crate::player::Player;
 use crate::stub::Stub;
 use spd_rule::Field;
+use spd_words::FinishKind;
 
 /// A step of a player. A vertex is stored with the stub of this name.
 #[derive(Clone, Copy, Debug)]
@@ -16,6 +17,8 @@ pub enum Turn {
     StoreEnd,
     StoreFirst(u32),
     StoreRest(u32),
+    /// The waiting vertex of a chain, whose finish is of this kind.
+    StoreWaiting(u32, FinishKind),
     StoreBody(u32),
     StoreLeft(u32),
     StoreRight(u32),
@@ -29,6 +32,9 @@ pub enum Turn {
     AddSum(i64),
     RaiseBest(u64),
     LowerFault(u64),
+    /// A value for a finish of this kind, and a code, by the calls of `spd_book`.
+    Offer(FinishKind, i64),
+    Fault(u64),
     SeeSum(u32),
     SeeFault(u32),
     SetDone,
@@ -53,6 +59,7 @@ impl Player {
             Turn::StoreEnd => self.store_end(field),
             Turn::StoreFirst(name) => self.store_first(field, Stub::new(name)),
             Turn::StoreRest(name) => self.store_rest(field, Stub::new(name)),
+            Turn::StoreWaiting(name, kind) => { self.store_rest(field, Stub::waiting(name, kind)) }
             Turn::StoreBody(name) => self.store_body(field, Stub::new(name)),
             Turn::StoreLeft(name) => self.store_left(field, Stub::new(name)),
             Turn::StoreRight(name) => self.store_right(field, Stub::new(name)),
@@ -65,6 +72,8 @@ impl Player {
             Turn::AddSum(x) => self.add_sum(field, x),
             Turn::RaiseBest(x) => self.raise_best(field, x),
             Turn::LowerFault(code) => self.lower_fault(field, code),
+            Turn::Offer(kind, value) => self.offer(field, kind, value),
+            Turn::Fault(code) => self.fault(field, code),
             Turn::SeeSum(d) => self.see_sum(field, d),
             Turn::SeeFault(d) => self.see_fault(field, d),
             Turn::SetDone => self.set_done(field),

@@ -14,5 +14,5 @@ invariant_of-self c = let self = c.args.self.now in let r = c.in_ok-r.r in recor
   ties = subst (λ (n : Notes). Ties c.claim-found.new.share.seat.me n)
       (λ j. record self.notes { running = Some (record r { right = 0 }); claimed = Some (sym c.handle_of.ensures j) })
       (subst (λ (m : Me (Option Stub) View). Ties m (record self.notes { running = Some (record r { right = 0 }); claimed = Some (next_handle (pair_of c.claim-found.result)) }))
-      (sym c.claim-found.ensures.view) (ties_claim self.share.seat.me self.notes self.ties (pair_of c.claim-found.result) r c.in_ok-r.ensures.running));
+      (sym c.claim-found.ensures.view) (ties_claim self.share.seat.me self.notes self.ties (pair_of c.claim-found.result) r c.in_ok-r.ensures.pays.running));
 }

@@ -16,7 +16,7 @@ invariant_of-self c = let self = c.args.self.now in let me = self.share.seat.me 
     record {
       ties = subst (λ (m : Me (Option Stub) View). Ties m (record self.notes { flight = Some (flight_with Spawn k c.in_ok-running.running.finish 0) }))
           (sym (c.draw_move-found.ensures.drawn.drawn room)) (ties_spawn me self.notes self.ties k c.in_ok-running.running
-          c.in_ok-running.ensures.flight c.in_ok-running.ensures.works.running);
+          c.in_ok-running.ensures.flight c.in_ok-running.ensures.works.pays.running);
     }
 
 pub invariant_of-self-else-found-from : goal.invariant_of-self-else-found-from

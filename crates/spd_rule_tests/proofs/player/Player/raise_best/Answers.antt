@@ -7,10 +7,10 @@ use Rattle.spd_rule_tests.proofs.Paid.{ties_offer, may_pay, wild_not}
 use Rattle.spd_rule_tests.proofs.player.Player.raise_best.Goals as goal
 
 pub raise_best-found-requires-clause-may : goal.raise_best-found-requires-clause-may
-raise_best-found-requires-clause-may c κs = let self = c.args.self.now in may_pay self.share.seat.me self.notes self.ties c.in_ok-r.r c.in_ok-r.ensures
+raise_best-found-requires-clause-may c κs = let self = c.args.self.now in may_pay self.share.seat.me self.notes self.ties c.in_ok-r.r c.in_ok-r.ensures.pays
 
 pub raise_best-found-requires-clause-pays : goal.raise_best-found-requires-clause-pays
-raise_best-found-requires-clause-pays c κs z = let self = c.args.self.now in absurd (wild_not self.share.seat.me self.notes self.ties c.in_ok-r.r c.in_ok-r.ensures z)
+raise_best-found-requires-clause-pays c κs z = let self = c.args.self.now in absurd (wild_not self.share.seat.me self.notes self.ties c.in_ok-r.r c.in_ok-r.ensures.pays z)
 
 pub invariant_of-self : goal.invariant_of-self
 invariant_of-self c = let self = c.args.self.now in record {

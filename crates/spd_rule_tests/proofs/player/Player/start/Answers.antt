@@ -18,6 +18,7 @@ invariant_of-self c = let self = c.args.self.now in let me = self.share.seat.me 
         running = Some (sym c.started.ensures j);
         wild = sym c.wild_mark-self.ensures j;
         awaits = sym c.wait_mark-self.ensures j;
+        waits = sym c.wait_kind-self.ensures j;
         knows = true;
       }) (ties_start me me1 me2 self.notes self.ties c.if-not-rests.ensures c.args.v x hit.body c.trade-body.result t.slot hit.known t.before t.after);
     }

@@ -18,5 +18,5 @@ set_vertex-requires-clause-fit c κs = let t = c.trade.ensures.traded in let me 
 pub invariant_of-self : goal.invariant_of-self
 invariant_of-self c = let self = c.args.self.now in let me = self.share.seat.me in let t = c.trade.ensures.traded in let me1 = c.trade.new.share.seat.me in
     let d : ℕ = c.in_ok-d.d in let ties = traded me me1 self.notes self.ties (Some c.args.body) c.trade.result t.slot t.before t.after in record {
-      ties = subst (λ (m : Me (Option Stub) View). Ties m (record self.notes { running = Some (record c.in_ok-r.r { right = 0 }); flight = Some (flight_with Chain d d 3) })) (sym c.set_vertex.ensures.view) (ties_rest me1 self.notes ties c.in_ok-r.r d c.in_ok-d.ensures c.in_ok-r.ensures.running);
+      ties = subst (λ (m : Me (Option Stub) View). Ties m (record self.notes { running = Some (record c.in_ok-r.r { right = 0 }); flight = Some (flight_with Chain d d 3) })) (sym c.set_vertex.ensures.view) (ties_rest me1 self.notes ties c.in_ok-r.r d c.in_ok-d.ensures c.in_ok-r.ensures.pays.running);
     }
