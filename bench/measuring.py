@@ -38,6 +38,23 @@ def seconds(command, runs, status=0):
     return statistics.median(times)
 
 
+def cpu_seconds(command, status=0):
+    """The processor time of one run of a command that ends with this status, in seconds."""
+    before = resource.getrusage(resource.RUSAGE_CHILDREN)
+    ended(subprocess.run(command, stdout=subprocess.DEVNULL, stderr=subprocess.DEVNULL, check=False), status)
+    after = resource.getrusage(resource.RUSAGE_CHILDREN)
+    return after.ru_utime - before.ru_utime + after.ru_stime - before.ru_stime
+
+
+def medians(commands, rounds):
+    """The median processor time of each command, by its name: a round is one run of each, so that what else the machine does meets all alike."""
+    times = {name: [] for name in commands}
+    for _ in range(rounds):
+        for name, command in commands.items():
+            times[name].append(cpu_seconds(command))
+    return {name: statistics.median(of) for name, of in times.items()}
+
+
 def peak_kib(command, status=0):
     """The peak resident memory of a command that ends with this status, in KiB, by Debian's package `time`."""
     timed = ["/usr/bin/time", "-f", "%M", *command]

@@ -5,12 +5,15 @@ Run at the top of the repository, after `rt ci`, or `rt run` in crates/spd: they
 crates/spd/out, and `rt ci` leaves it as each of two compilers builds it. Each row of ROWS is a command
 line with what its streams are, and the status, the bytes on standard output and those on standard
 error that must come. A stream that takes no bytes, or whose bytes can't be read again, has b"".
+
+Root may read every file, so a row of a file that may not be read runs the program as another user.
 """
 
 import dataclasses
 import os
 import pathlib
 import resource
+import shutil
 import signal
 import subprocess
 import sys
@@ -21,6 +24,13 @@ PROGRAMS = [pathlib.Path("crates/spd/out/spd"), pathlib.Path("crates/spd/out/spd
 LONG = b"x" * 70_000
 MOST = 1_048_576
 SECONDS = 60
+
+# The user that may read no file that is closed to others.
+NOBODY = 65_534
+
+# The greatest size of a data file, and the most entries of a column.
+MOST_DATA = 67_108_864
+MOST_ENTRIES = 1_000_000
 
 # Enough to start in, and too little for some copies of a word of 100,000 bytes.
 MEMORY = 262_144
@@ -54,7 +64,18 @@ FILES = {
     b"of_empty.sp": b'column c: int from "empty.sp" field "c"; main { }\n',
     b"stray.sp": b"main {\n print x;\n}\n",
     b"wide.sp": b"main{" + b"print 1;" * 10_000 + b"}",
+    b"large.sp": b'column n: int from "large.csv" field "n";\nmain { let s = 0; for i in 0..len(n) { s = s + n[i]; } print len(n), " ", s; }\n',
+    b"many.sp": b'column n: int from "many.csv" field "n"; main { print 1; }\n',
+    b"huge.sp": b'lines l from "huge.txt"; main { print 1; }\n',
+    b"of_pipe.sp": b'lines l from "pipe.txt"; main { print len(l), size(l, 2); }\n',
+    b"of_empty_pipe.sp": b'column n: int from "pipe.csv" field "n"; main { }\n',
+    b"closed.sp": b"main { print 1; }\n",
+    b"of_closed.sp": b'lines l from "closed.txt"; main { print 1; }\n',
+    b"closed.txt": b"a\n",
 }
+
+# Files that only their owner could open, who may not read them.
+UNREADABLE = [b"closed.sp", b"closed.txt"]
 
 # The canonical texts of some of them.
 PLAIN = b'main {\n  print "n=", 1 + 2;\n}\n'
@@ -92,6 +113,9 @@ class Row:
     err_is: str = PIPE
     most_bytes: int | None = None
     most_memory: int | None = None
+    # Named pipes that lie in the folder, each with the file whose bytes come through it.
+    pipes: dict = dataclasses.field(default_factory=dict)
+    as_nobody: bool = False
 
 
 REFUSED = b"spd: words refused\n"
@@ -111,6 +135,13 @@ ROWS = [
     Row("an empty data file", [b"elide", b"of_empty.sp"], 6, err=b"spd: empty.sp:0: NoField\n"),
     Row("a line of a refused data file that err can't take", [b"elide", b"of_empty.sp"], 5, err_is=FULL),
     Row("a line of a missing data file that err can't take", [b"elide", b"of_folder.sp"], 4, err_is=FULL),
+    Row("a sheet of 50 MB", [b"elide", b"large.sp"], 0, b"1000000 499999500000\n"),
+    Row("a sheet of a record too many", [b"elide", b"many.sp"], 6, err=b"spd: many.csv:1000001: TooMany\n"),
+    Row("a data file of a byte more than the greatest", [b"elide", b"huge.sp"], 6, err=b"spd: huge.txt:0: TooLong\n"),
+    Row("a pipe as a data file", [b"elide", b"of_pipe.sp"], 0, b"31\n", pipes={b"pipe.txt": b"l.txt"}),
+    Row("a pipe as a data file without a header", [b"elide", b"of_empty_pipe.sp"], 6, err=b"spd: pipe.csv:0: NoField\n", pipes={b"pipe.csv": b"empty.sp"}),
+    Row("a pipe as a data file that gives a byte too many", [b"elide", b"of_pipe.sp"], 6, err=b"spd: pipe.txt:0: TooLong\n", pipes={b"pipe.txt": b"huge.txt"}),
+    Row("a data file that may not be read", [b"elide", b"of_closed.sp"], 4, err=b"spd: closed.txt: read failed\n", as_nobody=True),
     # The canonical text.
     Row("a canonical text", [b"check", b"a.sp"], 0, PLAIN),
     Row("that of a canonical text", [b"check", b"plain.sp"], 0, PLAIN),
@@ -151,6 +182,11 @@ ROWS = [
     Row("a file of a byte more", [b"elide", b"more.sp"], 1, err=b"spd: more.sp: TooLong\n"),
     Row("a missing file", [b"elide", b"missing.sp"], 4, err=b"spd: missing.sp: read failed\n"),
     Row("a folder", [b"elide", b"folder"], 4, err=b"spd: folder: read failed\n"),
+    Row("a pipe", [b"elide", b"pipe.sp"], 0, b"n=3\n", pipes={b"pipe.sp": b"a.sp"}),
+    Row("a pipe that gives the greatest size", [b"elide", b"pipe.sp"], 0, b"8\n", pipes={b"pipe.sp": b"most.sp"}),
+    Row("a pipe that gives a byte more", [b"elide", b"pipe.sp"], 1, err=b"spd: pipe.sp: TooLong\n", pipes={b"pipe.sp": b"more.sp"}),
+    Row("a pipe that gives nothing", [b"elide", b"pipe.sp"], 1, err=b"spd: pipe.sp:1: NoMain\n", pipes={b"pipe.sp": b"empty.sp"}),
+    Row("a file that may not be read", [b"elide", b"closed.sp"], 4, err=b"spd: closed.sp: read failed\n", as_nobody=True),
     Row("a name below a file", [b"elide", b"a.sp/b.sp"], 4, err=b"spd: a.sp/b.sp: read failed\n"),
     # Standard output.
     Row("a closed output", [b"elide", b"a.sp"], 5, err=NOT_WRITTEN, out_is=CLOSED),
@@ -223,7 +259,6 @@ ROWS += OF_FAULTS
 ROWS += [under_check(it) for it in OF_FAULTS if it.status == 1]
 
 
-
 def opened(is_what, at):
     """What `Popen` is to be given for a stream: a file object, a pipe of its own, or nothing."""
     if is_what in (PIPE, SLOW):
@@ -244,7 +279,7 @@ def opened(is_what, at):
 
 
 def prepare(row):
-    """What the process does before the program: it closes streams, and sets the limits."""
+    """What the process does before the program: it closes streams, sets the limits, and becomes another user."""
     for at, is_what in ((1, row.out_is), (2, row.err_is)):
         if is_what == CLOSED:
             os.close(at)
@@ -252,6 +287,16 @@ def prepare(row):
     for what, most in limits:
         if most is not None:
             resource.setrlimit(what, (most, resource.getrlimit(what)[1]))
+    if row.as_nobody and os.geteuid() == 0:
+        os.setgroups([])
+        os.setgid(NOBODY)
+        os.setuid(NOBODY)
+
+
+def feed(folder, pipe, source):
+    """The process that gives a file's bytes to a named pipe, which is made here, once somebody opens it."""
+    os.mkfifo(folder / os.fsdecode(pipe))
+    return subprocess.Popen(["sh", "-c", 'exec cat "$0" > "$1"', source, pipe], cwd=folder, stderr=subprocess.DEVNULL)
 
 
 def wait_until_asleep(process):
@@ -277,13 +322,14 @@ def read_slowly(process):
         got += part
 
 
-def run(program, row, folder):
+def run(row, folder):
     """The status and the bytes that came: less than 0 where a signal ended the program."""
     files = [folder / "out", folder / "err"]
     streams = [opened(is_what, at) for is_what, at in zip((row.out_is, row.err_is), files)]
+    feeders = [feed(folder, pipe, source) for pipe, source in row.pipes.items()]
     process = subprocess.Popen(
         [row.name, *row.words],
-        executable=program.resolve(),
+        executable=folder / "program",
         cwd=folder,
         stdin=subprocess.DEVNULL,
         stdout=streams[0],
@@ -295,6 +341,10 @@ def run(program, row, folder):
         out, err = process.communicate(timeout=SECONDS)
     finally:
         process.kill()
+        for feeder, pipe in zip(feeders, row.pipes):
+            feeder.kill()
+            feeder.wait()
+            os.unlink(folder / os.fsdecode(pipe))
     got = [slow + (out or b""), err or b""]
     for at, (is_what, stream, file) in enumerate(zip((row.out_is, row.err_is), streams, files)):
         if is_what in (FULL, GONE, FILE, APPENDED):
@@ -310,18 +360,41 @@ def short(text):
 
 
 def faults_of(program, folder):
-    """What the rows gave that they should not."""
+    """What the rows gave that they should not. The program is run where each user may come to it."""
+    shutil.copy(program, folder / "program")
     faults = []
     for row in ROWS:
         for what, got, wanted in zip(
             ("status", "standard output", "standard error"),
-            run(program, row, folder),
+            run(row, folder),
             (row.status, row.out, row.err),
         ):
             if got != wanted:
                 shown = [it if what == "status" else short(it) for it in (got, wanted)]
                 faults.append(f"{program}: {row.what}: {what} {shown[0]}, and not {shown[1]}")
     return faults
+
+
+def write_large_files(folder):
+    """Data files at the limits, which are made here: 50 MB of a million records, one record more, and a byte too many."""
+    records = (b"%d," % i for i in range(MOST_ENTRIES))
+    (folder / "large.csv").write_bytes(b"n,note\n" + b"".join(it.ljust(49, b"x") + b"\n" for it in records))
+    (folder / "many.csv").write_bytes(b"n\n" + b"7\n" * (MOST_ENTRIES + 1))
+    with open(folder / "huge.txt", "wb") as file:
+        file.truncate(MOST_DATA + 1)
+
+
+def write_files(folder):
+    """All files that the rows name."""
+    folder.chmod(0o755)
+    (folder / "folder").mkdir()
+    for name, text in FILES.items():
+        at = folder / os.fsdecode(name)
+        at.parent.mkdir(exist_ok=True)
+        at.write_bytes(text)
+    for name in UNREADABLE:
+        (folder / os.fsdecode(name)).chmod(0)
+    write_large_files(folder)
 
 
 def is_stale(program):
@@ -342,11 +415,7 @@ def main():
     if not faults:
         with tempfile.TemporaryDirectory(prefix="spd-streams-") as folder:
             folder = pathlib.Path(folder)
-            (folder / "folder").mkdir()
-            for name, text in FILES.items():
-                at = folder / os.fsdecode(name)
-                at.parent.mkdir(exist_ok=True)
-                at.write_bytes(text)
+            write_files(folder)
             for program in programs:
                 faults += faults_of(program, folder)
     for fault in faults:
