@@ -3,18 +3,21 @@
 
 Usage: bench/language.py [PROGRAM], from the top of the repository, where PROGRAM is the built program
 (crates/spd/out/spd if left out). Beside it run those of lua5.4, luajit, perl (Debian's packages of
-these names) and this Python that the machine has. From each time the start of its program on nothing
-is taken off.
+these names) and this Python that the machine has. Times are of the processor, medians of rounds in
+which each language has one turn; from each the start of its program on nothing is taken off.
 
 What it prints is a measurement of one run, and no promise.
 """
 
 import os
 import shutil
+import statistics
 import sys
 import tempfile
 
-from measuring import peak_kib, program_path, seconds, text_file
+from measuring import peak_kib, processor_seconds, program_path, text_file
+
+ROUNDS = 5
 
 TURNS = 10_000_000
 CALLS = 5_000_000
@@ -117,19 +120,28 @@ def printed(run):
     return os.popen(" ".join(run)).read().strip()
 
 
+def medians(runs, rounds):
+    """The median processor time of each of these commands, which take turns."""
+    times = {one: [] for one in runs}
+    for _ in range(rounds):
+        for one, run in runs.items():
+            times[one].append(processor_seconds(run))
+    return {one: statistics.median(found) for one, found in times.items()}
+
+
 def measure(spd, languages):
     """Prints the time of each case in each language, and the ratios of that of spd to the others."""
-    starts = {one: seconds(command(spd, one, "nothing", LANGUAGES[one][2]), 21) for one in languages}
+    starts = medians({one: command(spd, one, "nothing", LANGUAGES[one][2]) for one in languages}, 4 * ROUNDS)
     for case, (times, result, programs) in CASES.items():
-        took = {}
+        runs = {}
         for one in languages:
             text = programs.get(LANGUAGES[one][0])
             if text is None:
                 continue
-            run = command(spd, one, "case", text.replace("N", str(times)))
-            if printed(run) != str(result):
-                raise SystemExit(f"{case} in {one}: {printed(run)}, expected {result}")
-            took[one] = max(seconds(run, 5) - starts[one], 0.0001)
+            runs[one] = command(spd, one, f"case_{one}", text.replace("N", str(times)))
+            if printed(runs[one]) != str(result):
+                raise SystemExit(f"{case} in {one}: {printed(runs[one])}, expected {result}")
+        took = {one: max(time - starts[one], 0.0001) for one, time in medians(runs, ROUNDS).items()}
         told = ", ".join(f"{took['spd'] / took[one]:.2f} times {one}" for one in took if one != "spd")
         print(f"{case}: {took['spd'] / times * 1e9:.0f} ns; {told}" if told else f"{case}: {took['spd'] / times * 1e9:.0f} ns")
 
@@ -144,6 +156,7 @@ def hold(spd):
 def main():
     spd = program_path()
     languages = [one for one, (_, runner, _) in LANGUAGES.items() if runner is None or shutil.which(runner[0])]
+    print("load of the machine:", *(f"{load:.1f}" for load in os.getloadavg()))
     with tempfile.TemporaryDirectory() as folder:
         os.chdir(folder)
         measure(spd, languages)

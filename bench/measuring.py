@@ -38,12 +38,14 @@ def seconds(command, runs, status=0):
     return statistics.median(times)
 
 
-def cpu_seconds(command, status=0):
-    """The processor time of one run of a command that ends with this status, in seconds."""
-    before = resource.getrusage(resource.RUSAGE_CHILDREN)
-    ended(subprocess.run(command, stdout=subprocess.DEVNULL, stderr=subprocess.DEVNULL, check=False), status)
-    after = resource.getrusage(resource.RUSAGE_CHILDREN)
-    return after.ru_utime - before.ru_utime + after.ru_stime - before.ru_stime
+def processor_seconds(command, status=0):
+    """The processor time of one run of a command that ends with this status, in seconds: what others do on
+    the machine adds little to it."""
+    with subprocess.Popen(command, stdout=subprocess.DEVNULL, stderr=subprocess.DEVNULL) as run:
+        _, waited, used = os.wait4(run.pid, 0)
+        run.returncode = os.waitstatus_to_exitcode(waited)
+    ended(run, status)
+    return used.ru_utime + used.ru_stime
 
 
 def medians(commands, rounds):
@@ -51,7 +53,7 @@ def medians(commands, rounds):
     times = {name: [] for name in commands}
     for _ in range(rounds):
         for name, command in commands.items():
-            times[name].append(cpu_seconds(command))
+            times[name].append(processor_seconds(command))
     return {name: statistics.median(of) for name, of in times.items()}
 
 
