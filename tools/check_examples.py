@@ -2,7 +2,7 @@
 """Checks the examples: what each writes, and that the documents show them as they are.
 
 Run at the top of the repository. Each examples/NAME.sp has examples/NAME.sp.stdout, the bytes that
-`spd elide` must write for it, and each examples/canonical/NAME.sp has there what `spd check` must.
+`spd elide` and `spd run` must write for it, and each examples/canonical/NAME.sp has there what `spd check` must.
 Each examples/faults/NAME.sp has NAME.sp.stderr, the line that tells of its fault; one that faults only
 as it runs has NAME.sp.stdout too, what it writes before. tools/check_streams.py runs those of faults.
 Where docs/language.md names an example before a block, that block is the program's text, and the
@@ -38,7 +38,7 @@ SHAPES = [
 ]
 
 # The folders whose examples end well, with the command that takes them.
-RUNS = [(EXAMPLES, "elide"), (CANONICAL, "check")]
+RUNS = [(EXAMPLES, "elide"), (EXAMPLES, "run"), (CANONICAL, "check")]
 
 
 def differing(folder, name, text, blocks, answers):
