@@ -1,5 +1,6 @@
 pub mod Built
 pub mod DataFiles
 pub mod Told
+pub mod Requests
 pub mod Serving
 pub mod Command

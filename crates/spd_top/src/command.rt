@@ -1,7 +1,8 @@
 // The whole command: what the program does, as a function of its arguments, its files and its sinks.
 ghost use Rattle.std.specs.Prelude.{◌≡◌, ◌≢◌, ◌<◌, ◌⊎◌, ◌↔◌, ℕ, List, IfOk, OnErr, IsTrue, Some, None};
 ghost use Rattle.spd_io.specs.Sink.{Failed, SameFaults};
-ghost use Rattle.spd_top.specs.Serving.{command_of, words_refused, IsUnread, ChangesNoUntouched, Says, WantsMemory, Answer};
+ghost use Rattle.spd_top.specs.Requests.{still_request_of};
+ghost use Rattle.spd_top.specs.Serving.{words_refused, IsUnread, ChangesNoUntouched, Says, WantsMemory, Answer};
 ghost use Rattle.spd_top.specs.Command.{words_of, AreText, OfWords, WhereNotText};
 
 use crate::serving::serve_still;
@@ -63,24 +64,25 @@ pub fn serve_arguments<F: Shelf, O: Sink, E: Sink>(
 ) -> u8
     // The answer is that to the words.
     ensures answer { OfWords arguments (λ words.
-        Answer words (F.state shelf.old) (F.state shelf.new) (O.state out.old) (O.state out.new)
-        (E.state err.old) (E.state err.new) result) }
+        Answer (still_request_of words) (F.state shelf.old) (F.state shelf.new)
+        (O.state out.old) (O.state out.new) (E.state err.old) (E.state err.new) result) }
     // Words that aren't UTF-8 are refused, whatever memory there is, and arguments that could not be had are told.
     ensures not_text { WhereNotText arguments (Says 2 (E.state err.old) (E.state err.new) words_refused result) }
     ensures not_had { OnErr arguments (WantsMemory (E.state err.old) (E.state err.new) result) }
     // Refused words are told as such, unless memory runs out.
-    ensures refused { OfWords arguments (λ words. command_of words ≡ None →
+    ensures refused { OfWords arguments (λ words. still_request_of words ≡ None →
         Says 2 (E.state err.old) (E.state err.new) words_refused result ⊎
         WantsMemory (E.state err.old) (E.state err.new) result) }
     // Refused words don't call the shelf; arguments that give no words call neither it nor `out`.
-    ensures uncalled { OfWords arguments (λ words. command_of words ≡ None → shelf.new ≡ shelf.old) }
+    ensures uncalled { OfWords arguments (λ words. still_request_of words ≡ None → shelf.new ≡ shelf.old) }
     ensures uncalled_not_text { WhereNotText arguments ((shelf.new ≡ shelf.old) × (out.new ≡ out.old)) }
     ensures uncalled_not_had { OnErr arguments ((shelf.new ≡ shelf.old) × (out.new ≡ out.old)) }
     // No count changes but that of PROGRAM and those of its data files.
-    ensures others { OfWords arguments (λ words. ChangesNoUntouched words (F.state shelf.old) (F.state shelf.new)) }
+    ensures others { OfWords arguments (λ words.
+        ChangesNoUntouched (still_request_of words) (F.state shelf.old) (F.state shelf.new)) }
     // 4 comes only where a read of one of these failed, and 5 only where a sink failed.
-    ensures read_cause { OfWords arguments (λ words. result ≡ 4 →
-        (name : List ℕ) × IsUnread words (F.state shelf.old) (F.state shelf.new) name) }
+    ensures read_cause { OfWords arguments (λ words. result ≡ 4 → (name : List ℕ) ×
+        IsUnread (still_request_of words) (F.state shelf.old) (F.state shelf.new) name) }
     ensures write_cause { result ≡ 5 →
         Failed (O.state out.old) (O.state out.new) ⊎ Failed (E.state err.old) (E.state err.new) }
     // Where `out` failed the status is 5, and where `err` failed it is 4, 5 or 7.

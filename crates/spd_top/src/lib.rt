@@ -5,6 +5,7 @@ mod building;
 mod command;
 mod data;
 mod programs;
+mod request;
 mod serving;
 mod status;
 mod telling;

@@ -16,7 +16,7 @@ use spd_check::Code;
 use spd_cols::load;
 use spd_data::Data;
 use spd_io::{Shelf, Sink, write_all_of};
-use spd_machine::ElideRegions;
+use spd_machine::Regions;
 use spd_spine::{End, RunError, run_main};
 use std::alloc::Global;
 
@@ -30,11 +30,12 @@ fn fail_write<E: Sink>(err: &mut E) -> u8
 }
 
 /// Runs a program over its columns, and answers the status. Its main writes each line as it comes to it.
-fn run<O: Sink, E: Sink>(
+fn run<R: Regions, O: Sink, E: Sink>(
     alloc: Global,
     name: &str,
     code: &Code,
     columns: &Data,
+    regions: &mut R,
     out: &mut O,
     err: &mut E,
 ) -> u8
@@ -47,8 +48,7 @@ fn run<O: Sink, E: Sink>(
     ensures out_kept { result ≢ 5 → SameFaults (O.state out.old) (O.state out.new) }
     ensures err_kept { result < 4 → SameFaults (E.state err.old) (E.state err.new) }
 {
-    let mut regions = ElideRegions;
-    match run_main(alloc, code.tree(), columns, &mut regions, out) {
+    match run_main(alloc, code.tree(), columns, regions, out) {
         Ok(End::Done) => status::DONE,
         Ok(End::Fault(fault)) => fail_run(alloc, err, name, fault),
         Err(RunError::WriteFailed) => fail_write(err),
@@ -57,10 +57,11 @@ fn run<O: Sink, E: Sink>(
 }
 
 /// Loads the columns that a program declares, runs it over them, and answers the status.
-pub(crate) fn elide<F: Shelf, O: Sink, E: Sink>(
+pub(crate) fn elide<R: Regions, F: Shelf, O: Sink, E: Sink>(
     alloc: Global,
     name: &str,
     code: &Code,
+    regions: &mut R,
     shelf: &mut F,
     out: &mut O,
     err: &mut E,
@@ -75,7 +76,7 @@ pub(crate) fn elide<F: Shelf, O: Sink, E: Sink>(
     ensures err_kept { result < 4 → SameFaults (E.state err.old) (E.state err.new) }
 {
     match load(alloc, code.program(), shelf) {
-        Ok(columns) => run(alloc, name, code, &columns, out, err),
+        Ok(columns) => run(alloc, name, code, &columns, regions, out, err),
         Err(fault) => refuse_data(alloc, err, code.program(), fault),
     }
 }
