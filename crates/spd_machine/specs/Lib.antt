@@ -1,3 +1,4 @@
 pub mod Machine
 pub mod Elision
 pub mod SourceJobs
+pub mod JobsRun

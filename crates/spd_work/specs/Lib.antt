@@ -1,4 +1,5 @@
 pub mod Hands
+pub mod Logs
 pub mod Meets
 pub mod Regions
 pub mod Runs

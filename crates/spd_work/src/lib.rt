@@ -4,6 +4,7 @@
 mod events;
 mod gate;
 mod hands;
+mod log;
 mod region_end;
 mod told;
 mod turns;
@@ -11,5 +12,6 @@ mod worker;
 mod workers;
 
 pub use gate::{Gate, Open};
+pub use log::RunLog;
 pub use region_end::RegionEnd;
 pub use workers::region;
