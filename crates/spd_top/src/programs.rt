@@ -4,9 +4,11 @@ ghost use Rattle.std.specs.Prelude.{◌≡◌, ◌≢◌, ◌<◌, ◌⊎◌, �
 ghost use Rattle.spd_io.specs.Sink.{Failed, SameFaults};
 ghost use Rattle.spd_cols.specs.Loading.{declarations, IsNoFileOf};
 ghost use Rattle.spd_level.specs.Columns.{Fits};
+ghost use Rattle.spd_machine.specs.JobsRun.{RanJobs};
 ghost use Rattle.spd_top.specs.DataFiles.{columns_loaded};
 ghost use Rattle.spd_top.specs.Told.{elided, checked};
 ghost use Rattle.spd_top.specs.Serving.{Tells, RunsProgram, GetsOrFails, write_failed};
+ghost use Rattle.spd_top.specs.Jobs.{main_jobs, EndsRun, RanOver};
 
 use crate::data::refuse_data;
 use crate::status;
@@ -29,8 +31,9 @@ fn fail_write<E: Sink>(err: &mut E) -> u8
     status::WRITE_FAILED
 }
 
-/// Runs a program over its columns, and answers the status. Its main writes each line as it comes to it.
-fn run<R: Regions, O: Sink, E: Sink>(
+/// Runs a program over its columns, each job of its main by the regions, and answers the status. Its main writes
+/// each line as it comes to it.
+fn run_over<R: Regions, O: Sink, E: Sink>(
     alloc: Global,
     name: &str,
     code: &Code,
@@ -47,6 +50,7 @@ fn run<R: Regions, O: Sink, E: Sink>(
     ensures status { result ≢ 4 }
     ensures out_kept { result ≢ 5 → SameFaults (O.state out.old) (O.state out.new) }
     ensures err_kept { result < 4 → SameFaults (E.state err.old) (E.state err.new) }
+    ensures ran { EndsRun result → RanJobs R.ran (main_jobs code.now columns.now) regions.old regions.new }
 {
     match run_main(alloc, code.tree(), columns, regions, out) {
         Ok(End::Done) => status::DONE,
@@ -57,7 +61,7 @@ fn run<R: Regions, O: Sink, E: Sink>(
 }
 
 /// Loads the columns that a program declares, runs it over them, and answers the status.
-pub(crate) fn elide<R: Regions, F: Shelf, O: Sink, E: Sink>(
+pub(crate) fn run<R: Regions, F: Shelf, O: Sink, E: Sink>(
     alloc: Global,
     name: &str,
     code: &Code,
@@ -74,9 +78,10 @@ pub(crate) fn elide<R: Regions, F: Shelf, O: Sink, E: Sink>(
         Failed (O.state out.old) (O.state out.new) ⊎ Failed (E.state err.old) (E.state err.new) }
     ensures out_kept { result ≢ 5 → SameFaults (O.state out.old) (O.state out.new) }
     ensures err_kept { result < 4 → SameFaults (E.state err.old) (E.state err.new) }
+    ensures ran { EndsRun result → RanOver R.ran code.now (F.state shelf.old).file regions.old regions.new }
 {
     match load(alloc, code.program(), shelf) {
-        Ok(columns) => run(alloc, name, code, &columns, regions, out, err),
+        Ok(columns) => run_over(alloc, name, code, &columns, regions, out, err),
         Err(fault) => refuse_data(alloc, err, code.program(), fault),
     }
 }

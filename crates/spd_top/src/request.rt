@@ -3,10 +3,11 @@
 ghost use Rattle.std.specs.Prelude.{◌≡◌, ◌≢◌, ◌<◌, ◌⊎◌, ℕ, List, Some};
 ghost use Rattle.spd_io.specs.Sink.{Failed, SameFaults};
 ghost use Rattle.spd_top.specs.Requests.{request_for};
+ghost use Rattle.spd_top.specs.Jobs.{EndsRun, RanProgram};
 ghost use Rattle.spd_top.specs.Serving.{IsUnread, ChangesNoUntouched, Answer, RefusesText};
 
 use crate::building::{BuildError, build};
-use crate::programs::{elide, show};
+use crate::programs::{run, show};
 use crate::telling::{
     check_word, fail_read, lex_word, out_of_memory, parse_word, refuse_line, refuse_program,
 };
@@ -54,6 +55,8 @@ pub(crate) fn answer<R: Regions, F: Shelf, O: Sink, E: Sink>(
         Failed (O.state out.old) (O.state out.new) ⊎ Failed (E.state err.old) (E.state err.new) }
     ensures out_kept { result ≢ 5 → SameFaults (O.state out.old) (O.state out.new) }
     ensures err_kept { result < 4 → SameFaults (E.state err.old) (E.state err.new) }
+    ensures ran { command ≡ SerialCommand.Elide → EndsRun result →
+        RanProgram R.ran name.now (F.state shelf.old).file regions.old regions.new }
 {
     let text = match shelf.read(alloc, name, MAX_TEXT) {
         Ok(text) => text,
@@ -63,7 +66,7 @@ pub(crate) fn answer<R: Regions, F: Shelf, O: Sink, E: Sink>(
     };
     match build(alloc, &text) {
         Ok(code) => match command {
-            SerialCommand::Elide => elide(alloc, name, &code, regions, shelf, out, err),
+            SerialCommand::Elide => run(alloc, name, &code, regions, shelf, out, err),
             SerialCommand::Check => show(alloc, &code, out, err),
         },
         Err(error) => refuse_text(alloc, err, name, error),

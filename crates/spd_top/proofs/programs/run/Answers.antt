@@ -1,33 +1,28 @@
-use Rattle.spd_top.proofs.Putting.{ok_well, ended_for_memory}
-use Rattle.spd_top.proofs.Tellings.{runs_done, runs_to_fault, runs_stopped, runs_out_of_memory}
+-- The columns that were loaded are those of the program, or why there are none was told.
+use Rattle.std.proofs.Common.{Err, subst}
+use Rattle.spd_syntax.specs.declared.tree.Program.{Program}
+use Rattle.spd_meaning.specs.Programs.{main_meaning}
+use Rattle.spd_cols.specs.Loading.{declarations, IsLoad}
+use Rattle.spd_level.specs.Columns.{columns_in}
+use Rattle.spd_top.specs.DataFiles.{columns_loaded}
+use Rattle.spd_top.specs.Serving.{runs_told, RefusesData}
+use Rattle.spd_top.proofs.Loads.{loaded_fit}
+use Rattle.spd_top.proofs.Tellings.{run_status, not_loaded}
 use Rattle.spd_top.proofs.programs.run.Goals as goal
 
-pub run_main-requires : goal.run_main-requires
-run_main-requires g c = record {
-  main = record {
-    silent = c.tree.ensures.silent;
-    functions_lined = c.tree.ensures.lined.functions;
-    tasks_lined = c.tree.ensures.lined.tasks;
-  };
+pub run_over-requires : goal.run_over-requires
+run_over-requires g c = record {
+  fits = loaded_fit (g.F.Shelf.state c.args.shelf.now).file c.args.code.now.items c.in-Ok.columns (rw c.program.ensures.program at c.in-Ok.ensures.answer);
 }
 
-pub returns-in-Ok-Done-clause-told : goal.returns-in-Ok-Done-clause-told
-returns-in-Ok-Done-clause-told g c =
-    runs_done c.args.name.now c.args.code.now c.tree.result.now c.args.columns.now c.tree.ensures.meaning c.requires.fits (g.O.Sink.state c.args.out.now) (g.O.Sink.state c.run_main.new.out) (g.E.Sink.state c.args.err.now)
-    c.in-Ok-Done.ensures.all (c.in-Ok-Done.ensures.kept (ok_well _ _)) (rw c.in-Ok-Done.field-0-is at c.in-Ok-Done.ensures.end)
+pub returns-in-Ok-clause-answer : goal.returns-in-Ok-clause-answer
+returns-in-Ok-clause-answer g c =
+    runs_told (columns_loaded c.in-Ok.columns) (rw c.program.ensures.program at c.in-Ok.ensures.answer)
+    (run_status c.args.name.now (main_meaning c.args.code.now.items (columns_in c.args.code.now.items c.in-Ok.columns))) c.run_over.ensures.told
 
-pub returns-in-Ok-Fault-clause-told : goal.returns-in-Ok-Fault-clause-told
-returns-in-Ok-Fault-clause-told g c =
-    runs_to_fault c.args.name.now c.args.code.now c.tree.result.now c.args.columns.now c.tree.ensures.meaning c.requires.fits c.in-Ok-Fault.fault (g.O.Sink.state c.args.out.now) (g.O.Sink.state c.run_main.new.out)
-    (g.E.Sink.state c.args.err.now) (g.E.Sink.state c.fail_run.new.err) c.fail_run.result
-    c.in-Ok-Fault.ensures.all (c.in-Ok-Fault.ensures.kept (ok_well _ _)) (rw c.in-Ok-Fault.field-0-is at c.in-Ok-Fault.ensures.end) c.fail_run.ensures
-
-pub returns-in-Err-WriteFailed-clause-told : goal.returns-in-Err-WriteFailed-clause-told
-returns-in-Err-WriteFailed-clause-told g c =
-    rw c.fail_write.ensures.status (runs_stopped c.args.name.now c.args.code.now c.tree.result.now c.args.columns.now c.tree.ensures.meaning c.requires.fits (g.O.Sink.state c.args.out.now) (g.O.Sink.state c.run_main.new.out)
-    (g.E.Sink.state c.args.err.now) (g.E.Sink.state c.fail_write.new.err) (c.in-Err-WriteFailed.ensures.cause (cc)) c.in-Err-WriteFailed.ensures.front c.fail_write.ensures.told)
-
-pub returns-in-Err-NoMemory-clause-told : goal.returns-in-Err-NoMemory-clause-told
-returns-in-Err-NoMemory-clause-told g c =
-    runs_out_of_memory c.args.name.now c.args.code.now c.tree.result.now c.args.columns.now c.tree.ensures.meaning c.requires.fits (g.O.Sink.state c.args.out.now) (g.O.Sink.state c.run_main.new.out)
-    (g.E.Sink.state c.args.err.now) (g.E.Sink.state c.out_of_memory.new.err) c.out_of_memory.result (c.in-Err-NoMemory.ensures.kept (ended_for_memory _ (cc))) c.in-Err-NoMemory.ensures.front c.out_of_memory.ensures
+pub returns-in-Err-clause-answer : goal.returns-in-Err-clause-answer
+returns-in-Err-clause-answer g c =
+    not_loaded c.args.name.now c.args.code.now (g.F.Shelf.state c.args.shelf.now) (g.F.Shelf.state c.load.new.shelf) (g.O.Sink.state c.args.out.now) (g.E.Sink.state c.args.err.now)
+    (g.E.Sink.state c.refuse_data.new.err) c.refuse_data.result c.in-Err.fault
+    (subst (λ (p : Program). IsLoad (g.F.Shelf.state c.args.shelf.now) (g.F.Shelf.state c.load.new.shelf) (declarations p.items) (Err c.in-Err.fault)) c.program.ensures.program c.in-Err.ensures.answer)
+    (subst (λ (p : Program). RefusesData p c.in-Err.fault (g.E.Sink.state c.args.err.now) (g.E.Sink.state c.refuse_data.new.err) c.refuse_data.result) c.program-in-Err.ensures.program c.refuse_data.ensures.told)

@@ -32,24 +32,24 @@ pub returns-in-Elide-clause-answer : goal.returns-in-Elide-clause-answer
 returns-in-Elide-clause-answer g c =
     let reads = reads_program c.args.command Elide c.args.name.now c.in-Ok.text.items c.deref.result.now (g.F.Shelf.state c.args.shelf.now).file c.in-Ok-build.code c.in-Elide.is
           c.in-Ok.ensures.whole c.in-Ok.ensures.within c.deref.ensures.value c.in-Ok-build.ensures.built in
-    ran (Some (request_for c.args.command c.args.name.now)) c.args.name.now c.in-Ok-build.code (g.F.Shelf.state c.args.shelf.now) (g.F.Shelf.state c.read.new.self) (g.F.Shelf.state c.elide.new.shelf)
-    c.in-Ok.ensures.files c.in-Ok.ensures.counts reads (g.O.Sink.state c.args.out.now) (g.O.Sink.state c.elide.new.out) (g.E.Sink.state c.args.err.now)
-    (g.E.Sink.state c.elide.new.err) c.elide.result c.elide.ensures.answer
+    ran (Some (request_for c.args.command c.args.name.now)) c.args.name.now c.in-Ok-build.code (g.F.Shelf.state c.args.shelf.now) (g.F.Shelf.state c.read.new.self) (g.F.Shelf.state c.run.new.shelf)
+    c.in-Ok.ensures.files c.in-Ok.ensures.counts reads (g.O.Sink.state c.args.out.now) (g.O.Sink.state c.run.new.out) (g.E.Sink.state c.args.err.now)
+    (g.E.Sink.state c.run.new.err) c.run.result c.run.ensures.answer
 
 pub returns-in-Elide-clause-others : goal.returns-in-Elide-clause-others
 returns-in-Elide-clause-others g c =
     let reads = reads_program c.args.command Elide c.args.name.now c.in-Ok.text.items c.deref.result.now (g.F.Shelf.state c.args.shelf.now).file c.in-Ok-build.code c.in-Elide.is
           c.in-Ok.ensures.whole c.in-Ok.ensures.within c.deref.ensures.value c.in-Ok-build.ensures.built in
-    ran_others (Some (request_for c.args.command c.args.name.now)) c.args.name.now c.in-Ok-build.code (g.F.Shelf.state c.args.shelf.now) (g.F.Shelf.state c.read.new.self) (g.F.Shelf.state c.elide.new.shelf)
-    c.in-Ok.ensures.files c.in-Ok.ensures.counts reads c.elide.ensures.others c.in-Ok.ensures.others
+    ran_others (Some (request_for c.args.command c.args.name.now)) c.args.name.now c.in-Ok-build.code (g.F.Shelf.state c.args.shelf.now) (g.F.Shelf.state c.read.new.self) (g.F.Shelf.state c.run.new.shelf)
+    c.in-Ok.ensures.files c.in-Ok.ensures.counts reads c.run.ensures.others c.in-Ok.ensures.others
 
 pub returns-in-Elide-clause-read_cause : goal.returns-in-Elide-clause-read_cause
 returns-in-Elide-clause-read_cause g c =
     let reads = reads_program c.args.command Elide c.args.name.now c.in-Ok.text.items c.deref.result.now (g.F.Shelf.state c.args.shelf.now).file c.in-Ok-build.code c.in-Elide.is
           c.in-Ok.ensures.whole c.in-Ok.ensures.within c.deref.ensures.value c.in-Ok-build.ensures.built in
-    ran_unread (Some (request_for c.args.command c.args.name.now)) c.args.name.now c.in-Ok-build.code (g.F.Shelf.state c.args.shelf.now) (g.F.Shelf.state c.read.new.self) (g.F.Shelf.state c.elide.new.shelf)
-    c.in-Ok.ensures.files c.in-Ok.ensures.counts reads (g.O.Sink.state c.args.out.now) (g.O.Sink.state c.elide.new.out) (g.E.Sink.state c.args.err.now)
-    (g.E.Sink.state c.elide.new.err) c.elide.result c.elide.ensures.answer
+    ran_unread (Some (request_for c.args.command c.args.name.now)) c.args.name.now c.in-Ok-build.code (g.F.Shelf.state c.args.shelf.now) (g.F.Shelf.state c.read.new.self) (g.F.Shelf.state c.run.new.shelf)
+    c.in-Ok.ensures.files c.in-Ok.ensures.counts reads (g.O.Sink.state c.args.out.now) (g.O.Sink.state c.run.new.out) (g.E.Sink.state c.args.err.now)
+    (g.E.Sink.state c.run.new.err) c.run.result c.run.ensures.answer
 
 pub returns-in-Ok-build-clause-answer : goal.returns-in-Ok-build-clause-answer
 returns-in-Ok-build-clause-answer g c =
