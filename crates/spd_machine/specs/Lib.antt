@@ -1,4 +1,3 @@
 pub mod Machine
 pub mod Elision
 pub mod SourceJobs
-pub mod JobsRun

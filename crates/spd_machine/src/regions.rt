@@ -1,9 +1,9 @@
 // What runs jobs.
 
-ghost use Rattle.std.specs.Prelude.{◌≡◌, ℕ, IfOk};
+ghost use Rattle.std.specs.Prelude.{◌≡◌, IfOk};
 ghost use Rattle.spd_words.specs.Total.{ended};
 ghost use Rattle.spd_level.specs.Columns.{context_of};
-ghost use Rattle.spd_meaning.specs.Eval.{job_total, job_moves};
+ghost use Rattle.spd_meaning.specs.Eval.{job_total};
 ghost use Rattle.spd_machine.specs.Elision.{job_eval};
 
 use crate::elide::elide_body;
@@ -15,9 +15,6 @@ use std::alloc::{AllocError, Global};
 
 /// What runs jobs.
 pub trait Regions {
-    /// What a job of so many moves, without the one of the job itself, changes in it.
-    ghost ran: { Self → ℕ → Self → Type 0 };
-
     /// Runs a job of a code over columns to its end: the gift of its offers, and the least code of its faults or
     /// `NO_FAULT`. It fails where memory runs out.
     fn region<'a>(
@@ -28,9 +25,7 @@ pub trait Regions {
         job: Job<'a>,
     ) -> Result<Given, AllocError>
         ensures given { IfOk result (λ given.
-            ended given ≡ job_total job.entry.kind (job_eval (context_of code.now columns.now) job.entry.body)) }
-        ensures ran { IfOk result (λ _.
-            ran self.old (job_moves (job_eval (context_of code.now columns.now) job.entry.body)) self.new) };
+            ended given ≡ job_total job.entry.kind (job_eval (context_of code.now columns.now) job.entry.body)) };
 }
 
 /// Runs each job by its serial elision.
@@ -38,10 +33,6 @@ pub trait Regions {
 pub struct ElideRegions;
 
 impl Regions for ElideRegions {
-    ghost use Rattle.std.specs.Prelude.{◌≡◌};
-
-    ghost ran = { λ old _ new. new ≡ old };
-
     fn region<'a>(
         &mut self,
         alloc: Global,

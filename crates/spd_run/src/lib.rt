@@ -1,6 +1,8 @@
-//! Jobs that are run by workers, each over a field of its own, with a log of the fields that they leave.
+//! Jobs and main by workers: each job over a field of its own, whose end goes into a log.
 #![tactic(auto)]
 
-mod worker_regions;
+mod jobs;
+mod mains;
 
-pub use worker_regions::WorkerRegions;
+pub use jobs::run_job_on_workers;
+pub use mains::run_main_on_workers;

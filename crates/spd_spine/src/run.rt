@@ -2,10 +2,8 @@
 
 ghost use Rattle.std.specs.Prelude.{◌≡◌, ◌≢◌, IfOk, OnOk, OnErr};
 ghost use Rattle.spd_io.specs.Sink.{Gets, GetsFront, Failed, SameFaults};
-ghost use Rattle.spd_meaning.specs.Acts.{jobs_of};
 ghost use Rattle.spd_meaning.specs.Printed.{printed};
 ghost use Rattle.spd_level.specs.Columns.{context_of};
-ghost use Rattle.spd_machine.specs.JobsRun.{RanJobs};
 ghost use Rattle.spd_spine.specs.Walk.{KeepsToMain, main_eval, EndsSo};
 
 use crate::spine::Spine;
@@ -32,9 +30,6 @@ pub fn run_main<R: Regions, O: Sink>(
     ensures all { OnOk result (Gets (O.state out.old) (O.state out.new)
         (printed (main_eval (context_of code.now columns.now)).given)) }
     ensures end { IfOk result (λ end. EndsSo end (main_eval (context_of code.now columns.now)).end) }
-    // The regions ran main's jobs, each once and in order.
-    ensures ran { IfOk result (λ _.
-        RanJobs R.ran (jobs_of (main_eval (context_of code.now columns.now)).given) regions.old regions.new) }
     ensures front { OnErr result (GetsFront (O.state out.old) (O.state out.new)
         (printed (main_eval (context_of code.now columns.now)).given)) }
     ensures cause { result ≡ Err RunError.WriteFailed → Failed (O.state out.old) (O.state out.new) }

@@ -22,10 +22,6 @@ use std::alloc::{AllocError, Global};
 pub struct PlainRegions;
 
 impl Regions for PlainRegions {
-    ghost use Rattle.std.specs.Prelude.{◌≡◌};
-
-    ghost ran = { λ old _ new. new ≡ old };
-
     fn region<'a>(
         &mut self,
         alloc: Global,
