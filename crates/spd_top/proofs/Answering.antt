@@ -1,39 +1,21 @@
--- The answers of the top call.
-use Rattle.std.proofs.Common.{◌≡◌, ◌≢◌, ℕ, ◌≤◌, List, [], length, Option, Some, codes, ◌⊎◌, inl, inr, refl, sym, ap, subst, ◌∙◌, arith}
-use Rattle.spd_io.specs.Shelf.{FileTold, ShelfState, MayBe, FailedAt, KeepsFiles, ShelfKeepsFaults, ChangesNoOther}
-use Rattle.spd_io.specs.Sink.{SinkState}
-use Rattle.spd_syntax.specs.Limits.{max_text}
+-- The rows of `Answer`, and what a status tells of what failed.
+use Rattle.std.proofs.Common.{◌≡◌, ◌≢◌, ◌<◌, ℕ, List, [], Option, codes, ◌⊎◌, inl, inr, refl, ap, ◌∙◌, arith}
+use Rattle.spd_io.specs.Shelf.{FileTold, ShelfState}
+use Rattle.spd_io.specs.Sink.{SinkState, Failed, SameFaults}
 use Rattle.spd_syntax.specs.declared.tree.Program.{Program}
-use Rattle.spd_syntax.specs.declared.tree.ItemKind.TheVariants as i
-use Rattle.spd_cols.specs.Loading.{declarations, IsNoFileOf}
-use Rattle.spd_cols.proofs.LoadSteps.{loaded_before, refused_before}
+use Rattle.spd_meaning.specs.Eval as eval
+use Rattle.spd_meaning.specs.Eval.{Fell, Back, Fault}
+use Rattle.spd_meaning.specs.Programs.{main_meaning}
+use Rattle.spd_meaning.specs.Printed.{printed}
+use Rattle.spd_level.specs.Columns.{columns_in}
 use Rattle.spd_top.specs.declared.words.SerialCommand.{SerialCommand}
 use Rattle.spd_top.specs.declared.words.SerialCommand.TheVariants.{Elide, Check}
-use Rattle.spd_top.specs.declared.building.BuildError.{BuildError}
-use Rattle.spd_top.specs.declared.building.BuildError.TheVariants as errors
-use Rattle.spd_top.specs.Requests.{Request, request_for, program_asked}
-use Rattle.spd_top.specs.Built.{TextOutcome, ComesTo, IsRefused, lex_fault, parse_fault, check_fault, passes}
-use Rattle.spd_top.specs.DataFiles.{DataOutcome, columns_loaded, file_unread, file_refused, StopsAt, DataComesTo}
-use Rattle.spd_top.specs.Told.{Bytes, of_file, of_line, lex_word, parse_word, check_word, Told, elided}
-use Rattle.spd_top.specs.Serving.{ReadsText, ReadsData, IsUnread, ChangesNoUntouched, column, of_text, RefusesText, RunsProgram, runs_told, runs_unread, runs_without_room, Outcome, GetsOrFails, unread, Says, WantsMemory, Tells, took, out_stopped, err_stopped, memory_stopped, Answer, as_defined, out_failed, err_failed, no_memory, no_more_memory}
+use Rattle.spd_top.specs.Requests.{Request}
+use Rattle.spd_top.specs.Built.{TextOutcome, lex_fault, parse_fault, check_fault, passes}
+use Rattle.spd_top.specs.DataFiles.{DataOutcome, columns_loaded, file_unread, file_refused}
+use Rattle.spd_top.specs.Told.{Bytes, of_file, Told, end_told, told_of}
+use Rattle.spd_top.specs.Serving.{IsUnread, Outcome, refused, missing, too_long, of_text, GetsOrFails, Says, WantsMemory, Tells, took, out_stopped, err_stopped, memory_stopped, Answer, as_defined, unread, out_failed, err_failed, no_memory, no_more_memory}
 use Rattle.spd_top.proofs.Putting.{takes_nothing}
-use Rattle.spd_top.proofs.Loads.{stops_before, failed_since}
-
--- what a request reads, where its text is that of a program that passes
-pub reads_program : (command which : SerialCommand) (name text seen : Bytes) (file : Bytes → FileTold) (tree : Program) → command ≡ which → MayBe (file name) text → length text ≤ max_text
-    → seen ≡ text → ComesTo seen (passes tree) → ReadsText (Some (request_for command name)) file which name (passes tree)
-reads_program command which name text seen file tree is may within same comes = record {
-  asks = ap (λ (k : SerialCommand). Some (request_for k name)) is;
-  text = text;
-  may = may;
-  within = within;
-  comes = subst (λ (bytes : Bytes). ComesTo bytes (passes tree)) same comes;
-}
-
--- a fault of a text
-abbrev IsFault : TextOutcome → Type 0
-IsFault (passes tree) = ⊥
-IsFault _ = Unit {0}
 
 module _ (request : Option Request) (shelf shelf' : ShelfState) (out err err' : SinkState) where
   abbrev answers : ℕ → Type 0
@@ -56,31 +38,6 @@ module _ (request : Option Request) (shelf shelf' : ShelfState) (out err err' : 
   not_read_told name result failed (inl s) = rw s.0 (unread name failed (takes_nothing out) s.1)
   not_read_told name result failed (inr w) = wanted result w
 
-  -- a text that gave no program
-  pub not_had : (command : SerialCommand) (name text : Bytes) (error : BuildError) (result : ℕ) → request ≡ Some (request_for command name) → MayBe (shelf.file name) text
-      → length text ≤ max_text → IsRefused text error → RefusesText name error err err' result → answers result
-  not_had command name text error result asks may within is said = by_error error is said
-    where
-      reads : (outcome : TextOutcome) → ComesTo text outcome → ReadsText request shelf.file command name outcome
-      reads outcome comes = record { asks = asks; text = text; may = may; within = within; comes = comes }
-
-      -- no data file is read
-      no_data : (command : SerialCommand) (outcome : TextOutcome) → IsFault outcome → ReadsData shelf.file command outcome (columns_loaded [])
-      no_data Elide (lex_fault fault) f = refl
-      no_data Elide (parse_fault fault) f = refl
-      no_data Elide (check_fault fault) f = refl
-      no_data Elide (passes tree) f = absurd f
-      no_data Check outcome f = refl
-
-      by_error : (error : BuildError) → IsRefused text error → RefusesText name error err err' result → answers result
-      by_error (errors.Lex fault) is said = said_or_wanted 1 (of_line name fault.line (lex_word fault.kind)) result
-          (of_text command name (lex_fault fault) (columns_loaded []) 1 [] _ (reads (lex_fault fault) is) (no_data command (lex_fault fault) tt) refl) (λ e. omega arith) said
-      by_error (errors.Parse fault) is said = said_or_wanted 1 (of_line name fault.line (parse_word fault.kind)) result
-          (of_text command name (parse_fault fault) (columns_loaded []) 1 [] _ (reads (parse_fault fault) is) (no_data command (parse_fault fault) tt) refl) (λ e. omega arith) said
-      by_error (errors.Check fault) is said = said_or_wanted 1 (of_line name fault.line (check_word fault.kind)) result
-          (of_text command name (check_fault fault) (columns_loaded []) 1 [] _ (reads (check_fault fault) is) (no_data command (check_fault fault) tt) refl) (λ e. omega arith) said
-      by_error errors.NoMemory is said = wanted result said
-
 -- what a command tells of a program
 pub has_told : (request : Option Request) (shelf shelf' : ShelfState) (t : Told) (out out' err err' : SinkState) (result : ℕ) → Outcome request shelf.file t.status t.bytes t.line → t.status ≢ 4
     → Tells t out out' err err' result → Answer request shelf shelf' out out' err err' result
@@ -89,41 +46,52 @@ has_told request shelf shelf' t out out' err err' result outcome other (out_stop
 has_told request shelf shelf' t out out' err err' result outcome other (err_stopped got fails) = err_failed t.status t.bytes t.line outcome other got fails
 has_told request shelf shelf' t out out' err err' result outcome other (memory_stopped front told) = no_more_memory t.status t.bytes t.line outcome front told
 
-tells_other : (t : Told) (out out' err err' : SinkState) (result : ℕ) → t.status ≢ 4 → Tells t out out' err err' result → result ≢ 4
-tells_other t out out' err err' result other (took got told) e = other e
-tells_other t out out' err err' result other (out_stopped fails told) e = absurd (omega arith)
-tells_other t out out' err err' result other (err_stopped got fails) e = absurd (omega arith)
-tells_other t out out' err err' result other (memory_stopped front told) e = absurd (omega arith)
+-- ---- a status tells what failed
 
--- ---- a run over a shelf that has been read before
+told_elsewhere : (command : SerialCommand) (name : Bytes) (outcome : TextOutcome) (came : DataOutcome) → (told_of command name outcome came).status ≢ 5
+told_elsewhere command name (lex_fault fault) came h = cc
+told_elsewhere command name (parse_fault fault) came h = cc
+told_elsewhere command name (check_fault fault) came h = cc
+told_elsewhere Check name (passes tree) came h = cc
+told_elsewhere Elide name (passes tree) (file_unread file) h = cc
+told_elsewhere Elide name (passes tree) (file_refused file fault) h = cc
+told_elsewhere Elide name (passes tree) (columns_loaded columns) h =
+    by_end (main_meaning tree.items (columns_in tree.items columns)).end (printed (main_meaning tree.items (columns_in tree.items columns)).given) h
+  where
+    by_end : {A : Type 0} (e : eval.End A) (bytes : Bytes) → (end_told name e bytes).status ≢ 5
+    by_end (Fell vars) bytes h = cc
+    by_end (Back value) bytes h = cc
+    by_end (Fault code) bytes h = cc
 
-module _ (request : Option Request) (name : Bytes) (tree : Program) (old now new : ShelfState) (files : KeepsFiles old now) (counts : ShelfKeepsFaults old now)
-    (reads : ReadsText request old.file Elide name (passes tree)) where
-  -- what a shelf told then, it had told before
-  data_before : (came : DataOutcome) → DataComesTo now.file (declarations tree.items) came → (elided name tree came).status ≢ 4
-      → DataComesTo old.file (declarations tree.items) came
-  data_before (columns_loaded columns) h other = loaded_before old now files (declarations tree.items) columns h
-  data_before (file_unread file) h other = absurd (other refl)
-  data_before (file_refused file fault) h other =
-      (h.0, stops_before old now files (declarations tree.items) h.0 file h.1, refused_before old now files h.0 fault h.2)
+-- No outcome has the status of a sink that failed.
+outcome_elsewhere : (request : Option Request) (file : Bytes → FileTold) (status : ℕ) (bytes line : Bytes) → Outcome request file status bytes line → status ≢ 5
+outcome_elsewhere request file status bytes line (refused e) h = absurd (omega arith)
+outcome_elsewhere request file status bytes line (missing n d m) h = absurd (omega arith)
+outcome_elsewhere request file status bytes line (too_long n d m) h = absurd (omega arith)
+outcome_elsewhere request file status bytes line (of_text command name outcome came s z l reads data_read told) h =
+    told_elsewhere command name outcome came (ap (λ (t : Told). t.status) told ∙ h)
 
-  not_loaded : (what : i.the_data) (file : Bytes) → StopsAt now.file (declarations tree.items) what file → FailedAt now new file → IsUnread request old new file
-  not_loaded what file stops failed =
-      column name file tree what reads (stops_before old now files (declarations tree.items) what file stops) (failed_since old now new file counts failed)
+module _ (request : Option Request) (shelf shelf' : ShelfState) (out out' err err' : SinkState) where
+  pub answer_writes : (result : ℕ) → Answer request shelf shelf' out out' err err' result → result ≡ 5 → Failed out out' ⊎ Failed err err'
+  answer_writes result (as_defined status bytes line outcome got told) five = absurd (outcome_elsewhere request shelf.file status bytes line outcome five)
+  answer_writes result (unread name failed got told) five = absurd (omega arith)
+  answer_writes result (out_failed status bytes line outcome fails told) five = inl fails.0
+  answer_writes result (err_failed status bytes line outcome other got fails) five = inr fails.0
+  answer_writes result (no_memory got told) five = absurd (omega arith)
+  answer_writes result (no_more_memory status bytes line outcome front told) five = absurd (omega arith)
 
-  pub ran : (out out' err err' : SinkState) (result : ℕ) → RunsProgram name tree now new out out' err err' result → Answer request old new out out' err err' result
-  ran out out' err err' result (runs_told came comes other tells) =
-      let t = elided name tree came in
-      has_told request old new t out out' err err' result (of_text Elide name (passes tree) came t.status t.bytes t.line reads (data_before came comes other) refl) other tells
-  ran out out' err err' result (runs_unread what file stops failed same four line) =
-      rw (sym same, four) (unread file (not_loaded what file stops failed) (takes_nothing out) line)
-  ran out out' err err' result (runs_without_room same wanted) = rw (sym same, wanted.0) (no_memory (takes_nothing out) wanted.1)
+  pub answer_keeps_out : (result : ℕ) → Answer request shelf shelf' out out' err err' result → result ≢ 5 → SameFaults out out'
+  answer_keeps_out result (as_defined status bytes line outcome got told) other = got.1
+  answer_keeps_out result (unread name failed got told) other = got.1
+  answer_keeps_out result (out_failed status bytes line outcome fails told) other = absurd (other refl)
+  answer_keeps_out result (err_failed status bytes line outcome not_read got fails) other = got.1
+  answer_keeps_out result (no_memory got told) other = got.1
+  answer_keeps_out result (no_more_memory status bytes line outcome front told) other = front.1
 
-  pub ran_unread : (out out' err err' : SinkState) (result : ℕ) → RunsProgram name tree now new out out' err err' result → result ≡ 4 → (file : Bytes) × IsUnread request old new file
-  ran_unread out out' err err' result (runs_told came comes other tells) four = absurd (tells_other (elided name tree came) out out' err err' result other tells four)
-  ran_unread out out' err err' result (runs_unread what file stops failed same is line) four = (file, not_loaded what file stops failed)
-  ran_unread out out' err err' result (runs_without_room same wanted) four = let is = wanted.0 in absurd (omega arith)
-
-  pub ran_others : ((other : Bytes) → IsNoFileOf other (declarations tree.items) → new.faults other ≡ now.faults other) → ChangesNoOther old now name → ChangesNoUntouched request old new
-  ran_others later first other untouched =
-      later other (untouched.columns name tree reads) ∙ first other (λ e. untouched.operand (ap program_asked reads.asks ∙ ap Some (sym e)))
+  pub answer_keeps_err : (result : ℕ) → Answer request shelf shelf' out out' err err' result → result < 4 → SameFaults err err'
+  answer_keeps_err result (as_defined status bytes line outcome got told) few = told.1
+  answer_keeps_err result (unread name failed got told) few = absurd (omega arith)
+  answer_keeps_err result (out_failed status bytes line outcome fails told) few = absurd (omega arith)
+  answer_keeps_err result (err_failed status bytes line outcome other got fails) few = absurd (omega arith)
+  answer_keeps_err result (no_memory got told) few = absurd (omega arith)
+  answer_keeps_err result (no_more_memory status bytes line outcome front told) few = absurd (omega arith)

@@ -3,5 +3,5 @@ pub mod DataFiles
 pub mod Told
 pub mod Requests
 pub mod Serving
-pub mod Jobs
+pub mod Early
 pub mod Command

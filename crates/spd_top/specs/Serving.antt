@@ -1,5 +1,5 @@
 -- What a command line's request over files defines, and what is answered where files, sinks or memory fail.
-use Rattle.std.specs.Prelude.{◌≡◌, ◌≢◌, ℕ, ◌≤◌, List, [], ◌++◌, length, Option, Some, None, codes, ◌⊎◌}
+use Rattle.std.specs.Prelude.{◌≡◌, ◌≢◌, ℕ, ◌≤◌, List, [], ◌++◌, length, Option, Some, None, Result, Ok, Err, codes, ◌⊎◌}
 use Rattle.spd_io.specs.Shelf.{FileTold, Untold, Missing, MayBe, MayExceed, ShelfState, FailedAt}
 use Rattle.spd_io.specs.Sink.{SinkState, Gets, GetsFront, Failed, SameFaults}
 use Rattle.spd_syntax.specs.Limits.{max_text}
@@ -8,12 +8,16 @@ use Rattle.spd_syntax.specs.declared.tree.ItemKind.TheVariants as i
 use Rattle.spd_cols.specs.declared.fault.LoadFault.{LoadFault}
 use Rattle.spd_cols.specs.declared.fault.LoadFault.TheVariants as load
 use Rattle.spd_cols.specs.Loading.{declarations, file_of_column, IsNoFileOf}
+use Rattle.spd_spine.specs.declared.turn.End.{End}
+use Rattle.spd_spine.specs.declared.turn.End.TheVariants as end
+use Rattle.spd_spine.specs.declared.turn.RunError.{RunError}
+use Rattle.spd_spine.specs.declared.turn.RunError.TheVariants as failed
 use Rattle.spd_top.specs.declared.words.SerialCommand.{SerialCommand}
 use Rattle.spd_top.specs.declared.words.SerialCommand.TheVariants.{Elide, Check}
 use Rattle.spd_top.specs.Requests.{Request, request_for, program_asked}
 use Rattle.spd_top.specs.Built.{TextOutcome, passes, ComesTo}
 use Rattle.spd_top.specs.DataFiles.{DataOutcome, columns_loaded, DataComesTo, StopsAt, AreTold}
-use Rattle.spd_top.specs.Told.{Bytes, end_of_line, of_file, of_line, lex_word, parse_word, check_word, data_word, Told, elided, told_of}
+use Rattle.spd_top.specs.Told.{Bytes, end_of_line, of_file, of_line, of_fault, lex_word, parse_word, check_word, data_word, Told, told_of}
 use Rattle.spd_top.specs.declared.building.BuildError.{BuildError}
 use Rattle.spd_top.specs.declared.building.BuildError.TheVariants as errors
 
@@ -131,16 +135,12 @@ RefusesData tree (load.Refused number fault) old new result =
     ⊎ WantsMemory old new result
 RefusesData tree load.NoMemory old new result = WantsMemory old new result
 
--- What running a program over a shelf came to.
-pub data RunsProgram (name : Bytes) (tree : Program) (shelf shelf' : ShelfState) (out out' err err' : SinkState) (result : ℕ) : Type 0 where
-  runs_told : (came : DataOutcome) → DataComesTo shelf.file (declarations tree.items) came → (elided name tree came).status ≢ 4
-      → Tells (elided name tree came) out out' err err' result
-      → RunsProgram name tree shelf shelf' out out' err err' result
-  -- A data file could not be read.
-  runs_unread : (what : i.the_data) (file : Bytes) → StopsAt shelf.file (declarations tree.items) what file → FailedAt shelf shelf' file → out ≡ out' → result ≡ 4
-      → GetsOrFails err err' (of_file file (codes "read failed")) → RunsProgram name tree shelf shelf' out out' err err' result
-  -- Memory ran out before main ran.
-  runs_without_room : out ≡ out' → WantsMemory err err' result → RunsProgram name tree shelf shelf' out out' err err' result
+-- How main ended was told.
+abbrev pub TellsEnd : Bytes → Result End RunError → SinkState → SinkState → ℕ → Type 0
+TellsEnd name (Ok end.Done) old new result = (result ≡ 0) × (new ≡ old)
+TellsEnd name (Ok (end.Fault code)) old new result = Says 3 old new (of_fault name code) result ⊎ WantsMemory old new result
+TellsEnd name (Err failed.WriteFailed) old new result = (result ≡ 5) × GetsOrFails old new write_failed
+TellsEnd name (Err failed.NoMemory) old new result = WantsMemory old new result
 
 -- What was answered, by what shelf, `out` and `err` were before and after.
 pub data Answer (request : Option Request) (shelf shelf' : ShelfState) (out out' err err' : SinkState) : ℕ → Type 0 where

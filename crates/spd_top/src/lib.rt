@@ -4,8 +4,8 @@
 mod building;
 mod command;
 mod data;
+mod loaded;
 mod programs;
-mod request;
 mod serving;
 mod status;
 mod telling;

@@ -5,11 +5,10 @@ ghost use Rattle.spd_io.specs.Sink.{Failed, SameFaults};
 ghost use Rattle.spd_top.specs.Requests.{still_request_of};
 ghost use Rattle.spd_top.specs.Serving.{words_refused, IsUnread, ChangesNoUntouched, Says, Answer, HasOneOutcome};
 
-use crate::request::answer;
+use crate::programs::{check, elide};
 use crate::telling::{out_of_memory, refuse_words};
-use crate::words::Words;
+use crate::words::{SerialCommand, Words};
 use spd_io::{Shelf, Sink};
-use spd_machine::ElideRegions;
 use std::alloc::Global;
 
 /// Does what the words of a command line say, over a shelf of files, a sink for the output and one
@@ -51,6 +50,8 @@ pub fn serve_still<F: Shelf, O: Sink, E: Sink>(
     let Ok(name) = words.operand(alloc) else {
         return out_of_memory(err);
     };
-    let mut regions = ElideRegions;
-    answer(alloc, command, name, &mut regions, shelf, out, err)
+    match command {
+        SerialCommand::Elide => elide(alloc, name, shelf, out, err),
+        SerialCommand::Check => check(alloc, name, shelf, out, err),
+    }
 }
