@@ -1,3 +1,4 @@
+pub mod Crew
 pub mod Hands
 pub mod Logs
 pub mod Meets

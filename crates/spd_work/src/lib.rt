@@ -3,8 +3,10 @@
 
 mod events;
 mod gate;
+mod gathering;
 mod hands;
 mod log;
+mod placing;
 mod region_end;
 mod told;
 mod turns;

@@ -1,19 +1,27 @@
 // A field's workers, from the first vertex to the end.
 
-ghost use Rattle.std.specs.Prelude.{◌≡◌, ◌<◌, ◌≤◌, IfOk, [], length};
+ghost use Rattle.std.specs.Prelude.{◌≡◌, ◌==◌, ◌||◌, ◌*◌, ◌<◌, ◌≤◌, All, IfOk, [], length};
 ghost use Rattle.spd_words.specs.Meaning.{IsTame};
 ghost use Rattle.spd_words.specs.BodyCalls.{IsReady};
 ghost use Rattle.spd_state.specs.Seats.{first_view};
 ghost use Rattle.spd_rule.specs.Shares.{IsOf, field_plan, share_known};
+ghost use Rattle.spd_work.specs.Crew.{EachPair, HasWorked, IsUnused};
 ghost use Rattle.spd_work.specs.Regions.{IsRegion};
+ghost use Rattle.spd_work.specs.Workers.{WorkerRests};
 
 use crate::gate::Gate;
+use crate::gathering::gather;
+use crate::placing::{handles_on, place};
 use crate::region_end::RegionEnd;
+use crate::worker::{Worker, work};
+use spd_dag::make;
 use spd_grow::Coin;
+use spd_ready::{LockedList, Ready};
 use spd_rule::{Field, Share};
 use spd_words::{Body, FinishKind};
 use std::alloc::{AllocError, Global};
 use std::sync::Wait;
+use std::thread;
 use std::thread::Threads;
 
 /// Runs a body as the first vertex of a new field, for a finish of this kind, on so many workers, each in a
@@ -39,7 +47,81 @@ pub fn region<R: Threads + Wait + Sync, B: Body, C: Coin, G: Gate>(
     requires coins { workers ≤ length coins.old }
     ensures { IfOk result (λ end. IsRegion (field_plan field) (B.view body) end) }
 {
-    let _ = (alloc, field, share, kind, body, workers, coins, gate);
-    for _ in rt.forever() {}
-    unreachable!()
+    let _ = coins;
+    let plan = field.plan();
+    let list = LockedList::new(alloc, 2 * plan.moves())?;
+    let handles = handles_on(alloc, &list, workers)?;
+    let end = run_region(rt, alloc, field, share, kind, body, handles, gate)?;
+    Ok(end)
+}
+
+/// The same, with a handle for each worker.
+fn run_region<R: Threads + Wait + Sync, B: Body, G: Gate, Q: Ready + Drop>(
+    rt: &R,
+    alloc: Global,
+    field: Field<B>,
+    share: Share<B>,
+    kind: FinishKind,
+    body: B,
+    handles: Vec<Q>,
+    gate: &G,
+) -> Result<RegionEnd<B>, AllocError>
+    requires of { IsOf field share }
+    requires new { share_known share ≡ (first_view, []) }
+    requires ready { IsReady kind (B.view body) }
+    requires tame { IsTame (B.view body).means }
+    requires handles { (0 < length handles.items) × (length handles.items ≤ 64) }
+    requires unused { All (IsUnused Q.room Q.pushed (field_plan field)) handles.items }
+    ensures { IfOk result (λ end. IsRegion (field_plan field) (B.view body) end) }
+{
+    let plan = field.plan();
+    let mut workers = Vec::with_capacity(alloc, handles.len())?;
+    let mut share = share;
+    make(&field, &mut share, kind, body);
+    place(rt, &field, share, handles, &mut workers);
+    run_all(rt, alloc, &field, kind, gate, &mut workers);
+    let (share, ended) = gather(&field, workers);
+    let closed = field.close(share);
+    let code = closed.word(plan.fault_place(0));
+    let Some(collected) = ended else {
+        return Err(AllocError);
+    };
+    if lacks_memory(collected.fault, code) {
+        return Err(AllocError);
+    }
+    Ok(RegionEnd {
+        gift: collected.gift,
+        fault: collected.fault,
+        closed,
+    })
+}
+
+/// Each worker runs until the end has run, in a thread of its own where one can be made.
+fn run_all<R: Threads + Wait + Sync, B: Body, G: Gate, Q: Ready>(
+    rt: &R,
+    alloc: Global,
+    field: &Field<B>,
+    kind: FinishKind,
+    gate: &G,
+    workers: &mut Vec<Worker<B, Q>>,
+)
+    requires some { 0 < length workers.old.items }
+    requires works { All (WorkerRests Q.room Q.pushed field.now kind) workers.old.items }
+    ensures { EachPair (HasWorked Q.room Q.pushed field.now kind) workers.old.items workers.new.items }
+{
+    let threads = workers.len();
+    let run = |_place: usize, worker: &mut Worker<B, Q>|
+        requires { WorkerRests Q.room Q.pushed field.now kind worker.old }
+        ensures { HasWorked Q.room Q.pushed field.entry.now kind worker.old worker.new }
+    {
+        work(rt, alloc, field, kind, gate, worker);
+    };
+    thread::for_each_mut(rt, workers.as_mut_slice(), threads, &run);
+}
+
+/// Whether a body lacked memory: the end collected the code 0, or that is the code of the finish by now.
+fn lacks_memory(fault: u64, code: u64) -> bool
+    ensures { result ≡ ((fault == 0) || (code == 0)) }
+{
+    fault == 0 || code == 0
 }
