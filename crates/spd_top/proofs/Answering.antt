@@ -1,8 +1,7 @@
 -- The rows of `Answer`, and what a status tells of what failed.
-use Rattle.std.proofs.Common.{◌≡◌, ◌≢◌, ◌<◌, ℕ, List, [], Option, codes, ◌⊎◌, inl, inr, refl, ap, ◌∙◌, arith}
+use Rattle.std.proofs.Common.{◌≡◌, ◌≢◌, ◌<◌, ℕ, [], Option, codes, ◌⊎◌, inl, inr, refl, ap, ◌∙◌, arith}
 use Rattle.spd_io.specs.Shelf.{FileTold, ShelfState}
 use Rattle.spd_io.specs.Sink.{SinkState, Failed, SameFaults}
-use Rattle.spd_syntax.specs.declared.tree.Program.{Program}
 use Rattle.spd_meaning.specs.Eval as eval
 use Rattle.spd_meaning.specs.Eval.{Fell, Back, Fault}
 use Rattle.spd_meaning.specs.Programs.{main_meaning}

@@ -1,5 +1,5 @@
 -- What words ask for, by the name of their command.
-use Rattle.std.proofs.Common.{◌≡◌, ◌≢◌, ◌∙◌, List, Option, Some, None, true, refl, sym, ap}
+use Rattle.std.proofs.Common.{◌≡◌, ◌∙◌, List, Option, Some, None, true, refl, sym, ap}
 use Rattle.std.specs.Prelude.{is_some, option_map, option_and_then}
 use Rattle.spd_command.specs.declared.command_name.CommandName.{CommandName}
 use Rattle.spd_command.specs.Asked.{Asked, elide, check, run, asked_of, name_of, name_in}

@@ -1,7 +1,7 @@
 -- What ends a command before its program runs, and what is known where nothing does.
 use Rattle.std.proofs.Common.{◌≡◌, ◌≢◌, ◌≤◌, ◌∙◌, ℕ, List, [], length, Some, Result, Ok, Err, codes, ◌⊎◌, inl, inr, refl, sym, ap, arith}
 use Rattle.std.proofs.lemmas.List.Elements.{All-take}
-use Rattle.spd_io.specs.Shelf.{ShelfState, MayBe, MayExceed, FailedAt, KeepsFiles, ShelfKeepsFaults, ChangesNoOther}
+use Rattle.spd_io.specs.Shelf.{ShelfState, MayBe, MayExceed, FailedAt, ChangesNoOther}
 use Rattle.spd_io.specs.Sink.{SinkState}
 use Rattle.spd_data.specs.declared.column.Column.{Column}
 use Rattle.spd_syntax.specs.Limits.{max_text}
@@ -9,7 +9,7 @@ use Rattle.spd_syntax.specs.declared.tree.Program.{Program}
 use Rattle.spd_syntax.specs.declared.tree.ItemKind.TheVariants as i
 use Rattle.spd_cols.specs.declared.fault.LoadFault.{LoadFault}
 use Rattle.spd_cols.specs.declared.fault.LoadFault.TheVariants as load
-use Rattle.spd_cols.specs.Loading.{file_in, declarations, reached, AreLoaded, IsLoad, IsNoFileOf}
+use Rattle.spd_cols.specs.Loading.{file_in, declarations, reached, IsLoad, IsNoFileOf}
 use Rattle.spd_cols.proofs.FilesOfColumns.{next_is_named}
 use Rattle.spd_cols.proofs.LoadSteps.{loaded_before, refused_before}
 use Rattle.spd_top.specs.declared.words.SerialCommand.{SerialCommand}
@@ -18,7 +18,7 @@ use Rattle.spd_top.specs.declared.building.BuildError.{BuildError}
 use Rattle.spd_top.specs.declared.building.BuildError.TheVariants as errors
 use Rattle.spd_top.specs.Requests.{request_for}
 use Rattle.spd_top.specs.Built.{TextOutcome, ComesTo, IsRefused, lex_fault, parse_fault, check_fault, passes}
-use Rattle.spd_top.specs.DataFiles.{columns_loaded, file_refused, StopsAt, DataComesTo}
+use Rattle.spd_top.specs.DataFiles.{columns_loaded, file_refused, StopsAt}
 use Rattle.spd_top.specs.Told.{Bytes, of_file, of_line, lex_word, parse_word, check_word, data_word}
 use Rattle.spd_top.specs.Serving.{ReadsText, ReadsData, IsUnread, program, column, ChangesNoUntouched, too_long, of_text, RefusesText, RefusesData, GetsOrFails, Says, WantsMemory, Answer, unread}
 use Rattle.spd_top.specs.Early.{HasProgram, HasColumns, AnswersEarly}
@@ -135,16 +135,17 @@ module _ (name : Bytes) (tree : Program) (old now new : ShelfState) (has : HasPr
         let named : file_in is.0 ≡ Some file = sym (next_is_named now.file tree.items number is.0 is.1) ∙ file_is in
         let stops : StopsAt now.file (declarations tree.items) is.0 file = record { number = number; next = is.1; named = named } in
         let missed : IsUnread (Some (request_for Elide name)) old new file =
-              column name file tree is.0 reads (stops_before old now has.files (declarations tree.items) is.0 file stops) (failed_since old now new file has.counts (rw named at is.2)) in
+        column name file tree is.0 reads (stops_before old now has.files (declarations tree.items) is.0 file stops) (failed_since old now new file has.counts (rw named at is.2)) in
         (λ out. rw four (unread file missed (takes_nothing out) line), λ e. (file, missed))
     no_columns (load.Refused number fault) is (inl (file, file_is, says)) =
         let named : file_in is.0 ≡ Some file = sym (next_is_named now.file tree.items number is.0 is.1) ∙ file_is in
         let stops : StopsAt now.file (declarations tree.items) is.0 file = record { number = number; next = is.1; named = named } in
-        let line = of_line file fault.row (data_word fault.kind) in
-        (λ out. said (Some (request_for Elide name)) old new out err err' 6 line result
+        let line = of_line file fault.row (data_word fault.kind) in (
+          λ out. said (Some (request_for Elide name)) old new out err err' 6 line result
               (of_text Elide name (passes tree) (file_refused file fault) 6 [] line reads
               (is.0, stops_before old now has.files (declarations tree.items) is.0 file stops, refused_before old now has.files is.0 fault is.2) refl) (λ e. omega arith) says,
-          λ four. absurd (said_elsewhere 6 err err' line result (λ e. omega arith) (inl says) four))
+          λ four. absurd (said_elsewhere 6 err err' line result (λ e. omega arith) (inl says) four),
+        )
     no_columns (load.Failed number) is (inr wants) = (λ out. wanted (Some (request_for Elide name)) old new out err err' result wants, λ four. absurd (wanted_elsewhere err err' result wants four))
     no_columns (load.Refused number fault) is (inr wants) =
         (λ out. wanted (Some (request_for Elide name)) old new out err err' result wants, λ four. absurd (wanted_elsewhere err err' result wants four))

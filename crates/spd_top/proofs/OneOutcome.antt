@@ -18,7 +18,7 @@ use Rattle.spd_check.specs.Checks.{faults_of}
 use Rattle.spd_cols.specs.Loading.{declarations}
 use Rattle.spd_top.specs.declared.words.SerialCommand.{SerialCommand}
 use Rattle.spd_top.specs.declared.words.SerialCommand.TheVariants.{Elide, Check}
-use Rattle.spd_top.specs.Requests.{Request, request_for, command_asked, program_asked}
+use Rattle.spd_top.specs.Requests.{Request, command_asked, program_asked}
 use Rattle.spd_top.specs.Built.{IsProgram, IsFaulty, TextOutcome, lex_fault, parse_fault, check_fault, passes, ComesTo}
 use Rattle.spd_top.specs.DataFiles.{DataOutcome}
 use Rattle.spd_top.specs.Told.{Bytes, of_file, Told, told_of}

@@ -1,5 +1,5 @@
 -- What a command line's request over files defines, and what is answered where files, sinks or memory fail.
-use Rattle.std.specs.Prelude.{◌≡◌, ◌≢◌, ℕ, ◌≤◌, List, [], ◌++◌, length, Option, Some, None, Result, Ok, Err, codes, ◌⊎◌}
+use Rattle.std.specs.Prelude.{◌≡◌, ◌≢◌, ℕ, ◌≤◌, [], ◌++◌, length, Option, Some, None, Result, Ok, Err, codes, ◌⊎◌}
 use Rattle.spd_io.specs.Shelf.{FileTold, Untold, Missing, MayBe, MayExceed, ShelfState, FailedAt}
 use Rattle.spd_io.specs.Sink.{SinkState, Gets, GetsFront, Failed, SameFaults}
 use Rattle.spd_syntax.specs.Limits.{max_text}
@@ -13,7 +13,7 @@ use Rattle.spd_spine.specs.declared.turn.End.TheVariants as end
 use Rattle.spd_spine.specs.declared.turn.RunError.{RunError}
 use Rattle.spd_spine.specs.declared.turn.RunError.TheVariants as failed
 use Rattle.spd_top.specs.declared.words.SerialCommand.{SerialCommand}
-use Rattle.spd_top.specs.declared.words.SerialCommand.TheVariants.{Elide, Check}
+use Rattle.spd_top.specs.declared.words.SerialCommand.TheVariants.{Elide}
 use Rattle.spd_top.specs.Requests.{Request, request_for, program_asked}
 use Rattle.spd_top.specs.Built.{TextOutcome, passes, ComesTo}
 use Rattle.spd_top.specs.DataFiles.{DataOutcome, columns_loaded, DataComesTo, StopsAt, AreTold}

@@ -69,7 +69,7 @@ pub(crate) fn code_of<F: Shelf, E: Sink>(
 
 /// The program in a file, with the columns that it declares; where one of the files gives none that is
 /// told, and the status is the error.
-pub(crate) fn loaded<F: Shelf, E: Sink>(
+pub(crate) fn load_program<F: Shelf, E: Sink>(
     alloc: Global,
     name: &str,
     shelf: &mut F,

@@ -7,7 +7,7 @@ ghost use Rattle.spd_top.specs.Requests.{request_for};
 ghost use Rattle.spd_top.specs.Told.{checked};
 ghost use Rattle.spd_top.specs.Serving.{IsUnread, ChangesNoUntouched, Answer, Tells, TellsEnd, GetsOrFails, write_failed};
 
-use crate::loaded::{code_of, loaded};
+use crate::loaded::{code_of, load_program};
 use crate::status;
 use crate::telling::{fail_run, out_of_memory, tell};
 use spd_canonical::print_program;
@@ -57,7 +57,7 @@ pub(crate) fn elide<F: Shelf, O: Sink, E: Sink>(
     ensures read_cause { result ≡ 4 → (file : List ℕ) ×
         IsUnread (Some (request_for Elide name.now)) (F.state shelf.old) (F.state shelf.new) file }
 {
-    let program = match loaded(alloc, name, shelf, err) {
+    let program = match load_program(alloc, name, shelf, err) {
         Ok(program) => program,
         Err(status) => return status,
     };
@@ -74,7 +74,7 @@ pub(crate) fn elide<F: Shelf, O: Sink, E: Sink>(
 
 /// Puts the canonical text of a program, as one piece, and answers the status.
 fn show<O: Sink, E: Sink>(alloc: Global, code: &Code, out: &mut O, err: &mut E) -> u8
-    ensures told { Tells (checked code.now) (O.state out.old) (O.state out.new)
+    ensures { Tells (checked code.now) (O.state out.old) (O.state out.new)
         (E.state err.old) (E.state err.new) result }
 {
     match print_program(alloc, code.program()) {

@@ -5,9 +5,7 @@ ghost use Rattle.std.specs.String.{string_bytes};
 ghost use Rattle.spd_command.specs.Asked.{AreInRange, run, asked_of};
 ghost use Rattle.spd_top.specs.Requests.{AskRun, still_request_of, command_asked, program_asked, serial_of};
 
-use spd_command::{
-    Command, CommandError, CommandName, Settings, lawful_command, read_command,
-};
+use spd_command::{Command, CommandError, CommandName, Settings, lawful_command, read_command};
 use std::alloc::{AllocError, Global};
 use std::marker::Model;
 

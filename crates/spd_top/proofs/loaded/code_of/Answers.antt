@@ -31,8 +31,8 @@ returns-in-Ok-build-clause-code g c = record {
   others = c.in-Ok.ensures.others;
 }
 
-pub returns-in-Err-build-clause-told : goal.returns-in-Err-build-clause-told
-returns-in-Err-build-clause-told g c command =
-    let found : IsRefused c.in-Ok.text.items c.in-Err-build.error = rw c.deref.ensures.value at c.in-Err-build.ensures.refused in
+pub returns-clause-told : goal.returns-clause-told
+returns-clause-told g c command =
+    let found : IsRefused c.in-Ok.text.items c.in-Err.error = rw c.deref.ensures.value at c.in-Err.ensures.refused in
     ends_refused command c.args.name.now (g.F.Shelf.state c.args.shelf.now) (g.F.Shelf.state c.read.new.self) c.in-Ok.ensures.others (g.E.Sink.state c.args.err.now) (g.E.Sink.state c.refuse_text.new.err)
-    c.refuse_text.result c.in-Ok.text.items c.in-Err-build.error c.in-Ok.ensures.whole c.in-Ok.ensures.within found c.refuse_text.ensures
+    c.refuse_text.result c.in-Ok.text.items c.in-Err.error c.in-Ok.ensures.whole c.in-Ok.ensures.within found c.refuse_text.ensures

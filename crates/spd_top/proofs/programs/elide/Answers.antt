@@ -1,13 +1,27 @@
-use Rattle.std.proofs.Common.{subst}
+-- Main was run over the columns that were loaded, and its end was told.
+use Rattle.std.proofs.Common.{Some, subst}
+use Rattle.spd_top.specs.declared.words.SerialCommand.TheVariants.{Elide}
+use Rattle.spd_top.specs.Requests.{request_for}
+use Rattle.spd_top.specs.Serving.{Answer}
 use Rattle.spd_top.proofs.Ended.{end_answers}
-use Rattle.spd_top.proofs.Tellings.{end_elsewhere}
 use Rattle.spd_top.proofs.programs.elide.Goals as goal
 
-pub run_main-requires : goal.run_main-requires
-run_main-requires g c = record {
+pub run_main-ended-requires : goal.run_main-ended-requires
+run_main-ended-requires g c = record {
   main = record {
     silent = c.tree.ensures.silent;
     functions_lined = c.tree.ensures.lined.functions;
     tasks_lined = c.tree.ensures.lined.tasks;
   };
 }
+
+pub returns-clause-answer : goal.returns-clause-answer
+returns-clause-answer g c =
+    let old = g.F.Shelf.state c.args.shelf.now in
+    let new = g.F.Shelf.state c.load_program.new.shelf in
+    let out = g.O.Sink.state c.args.out.now in
+    let out' = g.O.Sink.state c.run_main-ended.new.out in
+    subst (λ e. Answer (Some (request_for Elide c.args.name.now)) old new out out' (g.E.Sink.state e) (g.E.Sink.state c.tell_end.new.err) c.tell_end.result) c.in-Ok.ensures.untold
+    (end_answers c.args.name.now c.in-Ok.program.code c.tree.result.now c.in-Ok.program.columns old new c.in-Ok.ensures.loaded c.tree.ensures.meaning c.run_main-ended.result out out'
+    (g.E.Sink.state c.load_program.new.err) (g.E.Sink.state c.tell_end.new.err) c.tell_end.result c.run_main-ended.ensures.all c.run_main-ended.ensures.end c.run_main-ended.ensures.front
+    c.run_main-ended.ensures.cause c.run_main-ended.ensures.kept c.tell_end.ensures)

@@ -1,8 +1,8 @@
 -- The words' request is the command and the operand that were found, and it was answered.
-use Rattle.std.proofs.Common.{◌≡◌, ◌∙◌, ℕ, List, Option, None, arith, sym, subst}
-use Rattle.spd_top.specs.Requests.{Request, still_request_of}
-use Rattle.spd_top.specs.Serving.{words_refused, refused, IsUnread, ChangesNoUntouched, Answer}
-use Rattle.spd_top.proofs.Asking.{has_request, no_request, request_is}
+use Rattle.std.proofs.Common.{◌∙◌, arith, sym}
+use Rattle.spd_top.specs.Requests.{still_request_of}
+use Rattle.spd_top.specs.Serving.{words_refused, refused}
+use Rattle.spd_top.proofs.Asking.{has_request, no_request}
 use Rattle.spd_top.proofs.Answering.{said, wanted}
 use Rattle.spd_top.proofs.serving.serve_still.Goals as goal
 
