@@ -1,6 +1,6 @@
 // A job by workers.
 
-ghost use Rattle.std.specs.Prelude.{◌≡◌, ◌<◌, ◌≤◌, IfOk, length};
+ghost use Rattle.std.specs.Prelude.{◌≡◌, ◌<◌, ◌≤◌, IfOk, OnErr, length};
 ghost use Rattle.spd_words.specs.Total.{ended};
 ghost use Rattle.spd_words.specs.declared.scheme.Scheme.TheVariants.{Flat};
 ghost use Rattle.spd_meaning.specs.Eval.{job_total, job_moves};
@@ -23,7 +23,7 @@ use std::thread::Threads;
 /// Runs a job of a code over columns by so many workers over a new field of this plan, and adds the field
 /// that they leave to the log: the gift of its offers, and the least code of its faults or `NO_FAULT`.
 ///
-/// `AllocError` comes where memory runs out, here or in a task.
+/// `AllocError` comes where memory runs out, here or in a task, and leaves the log as it was.
 pub fn run_job_on_workers<'a, R: Threads + Wait + Sync, C: Coin, G: Gate>(
     rt: &R,
     alloc: Global,
@@ -43,6 +43,7 @@ pub fn run_job_on_workers<'a, R: Threads + Wait + Sync, C: Coin, G: Gate>(
         ended given ≡ job_total job.entry.kind (job_eval (context_of code.now columns.now) job.entry.body)) }
     ensures log { IfOk result (λ _.
         log.new ≡ with_job plan log.old (job_moves (job_eval (context_of code.now columns.now) job.entry.body))) }
+    ensures unlogged { OnErr result (log.new ≡ log.old) }
 {
     let kind = job.kind;
     let task = Task::of_job(alloc, code, columns, job)?;
