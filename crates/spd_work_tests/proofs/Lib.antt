@@ -1,0 +1,3 @@
+-- Tests: a scripted body may be run by a region, since it may be run at all (`MayRun`), and a new field is as a region wants it.
+-- No lemma stands here; answers and invariants lie beside their functions.
+-- A row of a test is compared when it runs, and by no proof.
