@@ -21,20 +21,34 @@ use Rattle.spd_top.specs.Built.{TextOutcome, ComesTo, IsRefused, lex_fault, pars
 use Rattle.spd_top.specs.DataFiles.{columns_loaded, file_refused, StopsAt}
 use Rattle.spd_top.specs.Told.{Bytes, of_file, of_line, lex_word, parse_word, check_word, data_word}
 use Rattle.spd_top.specs.Serving.{ReadsText, ReadsData, IsUnread, program, column, ChangesNoUntouched, too_long, of_text, RefusesText, RefusesData, GetsOrFails, Says, WantsMemory, Answer, unread}
+use Rattle.spd_top.specs.Jobs.{EndsRun}
 use Rattle.spd_top.specs.Early.{HasProgram, HasColumns, AnswersEarly}
 use Rattle.spd_top.proofs.Putting.{takes_nothing}
 use Rattle.spd_top.proofs.Answering.{said, said_or_wanted, wanted, not_read_told}
 use Rattle.spd_top.proofs.Loads.{stops_before, failed_since}
 
--- ---- lines that tell of no read that failed
+-- ---- a status that was told, or what came in its place
 
-said_elsewhere : (status : ℕ) (old new : SinkState) (line : Bytes) (result : ℕ) → status ≢ 4 → Says status old new line result ⊎ WantsMemory old new result → result ≢ 4
-said_elsewhere status old new line result other (inl (inl says)) four = other (sym says.0 ∙ four)
-said_elsewhere status old new line result other (inl (inr says)) four = let is = says.0 in absurd (omega arith)
-said_elsewhere status old new line result other (inr wants) four = let is = wants.0 in absurd (omega arith)
+abbrev IsTold : ℕ → ℕ → Type 0
+IsTold status result = (result ≡ status) ⊎ ((result ≡ 5) ⊎ (result ≡ 7))
 
-wanted_elsewhere : (old new : SinkState) (result : ℕ) → WantsMemory old new result → result ≢ 4
-wanted_elsewhere old new result wants four = let is = wants.0 in absurd (omega arith)
+said_told : (status : ℕ) (old new : SinkState) (line : Bytes) (result : ℕ) → Says status old new line result ⊎ WantsMemory old new result → IsTold status result
+said_told status old new line result (inl (inl says)) = inl says.0
+said_told status old new line result (inl (inr says)) = inr (inl says.0)
+said_told status old new line result (inr wants) = inr (inr wants.0)
+
+not_read_failure : (status result : ℕ) → status ≢ 4 → IsTold status result → result ≢ 4
+not_read_failure status result other (inl is) four = other (sym is ∙ four)
+not_read_failure status result other (inr (inl is)) four = absurd (omega arith)
+not_read_failure status result other (inr (inr is)) four = absurd (omega arith)
+
+no_end : (status result : ℕ) → status ≢ 0 → status ≢ 3 → IsTold status result → EndsRun result → ⊥
+no_end status result zero three (inl is) (inl ended) = zero (sym is ∙ ended)
+no_end status result zero three (inl is) (inr ended) = three (sym is ∙ ended)
+no_end status result zero three (inr (inl is)) (inl ended) = omega arith
+no_end status result zero three (inr (inl is)) (inr ended) = omega arith
+no_end status result zero three (inr (inr is)) (inl ended) = omega arith
+no_end status result zero three (inr (inr is)) (inr ended) = omega arith
 
 -- ---- PROGRAM
 
@@ -53,23 +67,34 @@ module _ (command : SerialCommand) (name : Bytes) (old now : ShelfState) (first 
   pub no_others : ChangesNoUntouched (Some (request_for command name)) old now
   no_others other untouched = first other (λ e. untouched.operand (ap Some (sym e)))
 
-  ends : ((out : SinkState) → Answers out) → result ≢ 4 → Ends
-  ends answer elsewhere = record { answer = answer; others = no_others; read_cause = λ four. absurd (elsewhere four) }
+  ends : (status : ℕ) → status ≢ 0 → status ≢ 3 → status ≢ 4 → ((out : SinkState) → Answers out) → IsTold status result → Ends
+  ends status zero three four answer told = record {
+    answer = answer;
+    others = no_others;
+    not_ended = no_end status result zero three told;
+    read_cause = λ e. absurd (not_read_failure status result four told e);
+  }
 
   pub ends_too_long : MayExceed (old.file name) max_text → Says 1 err err' (of_file name (codes "TooLong")) result ⊎ WantsMemory err err' result → Ends
   ends_too_long exceeds says =
-      ends (λ out. said_or_wanted (Some (request_for command name)) old now out err err' 1 (of_file name (codes "TooLong")) result (too_long name refl exceeds) (λ e. omega arith) says)
-      (said_elsewhere 1 err err' (of_file name (codes "TooLong")) result (λ e. omega arith) says)
+      ends 1 (λ e. omega arith) (λ e. omega arith) (λ e. omega arith)
+      (λ out. said_or_wanted (Some (request_for command name)) old now out err err' 1 (of_file name (codes "TooLong")) result (too_long name refl exceeds) (λ e. omega arith) says)
+      (said_told 1 err err' (of_file name (codes "TooLong")) result says)
 
   pub ends_unread : FailedAt old now name → ((result ≡ 4) × GetsOrFails err err' (of_file name (codes "read failed"))) ⊎ WantsMemory err err' result → Ends
   ends_unread failed says = record {
     answer = λ out. not_read_told (Some (request_for command name)) old now out err err' name result (program name refl failed) says;
     others = no_others;
+    not_ended = no_end 4 result (λ e. omega arith) (λ e. omega arith) (by_cause says);
     read_cause = λ four. (name, program name refl failed);
   }
+    where
+      by_cause : ((result ≡ 4) × GetsOrFails err err' (of_file name (codes "read failed"))) ⊎ WantsMemory err err' result → IsTold 4 result
+      by_cause (inl told) = inl told.0
+      by_cause (inr wants) = inr (inr wants.0)
 
   pub ends_wanted : WantsMemory err err' result → Ends
-  ends_wanted wants = ends (λ out. wanted (Some (request_for command name)) old now out err err' result wants) (wanted_elsewhere err err' result wants)
+  ends_wanted wants = ends 7 (λ e. omega arith) (λ e. omega arith) (λ e. omega arith) (λ out. wanted (Some (request_for command name)) old now out err err' result wants) (inl wants.0)
 
   -- a text that gave no program
   pub ends_refused : (text : Bytes) (error : BuildError) → MayBe (old.file name) text → length text ≤ max_text → IsRefused text error → RefusesText name error err err' result → Ends
@@ -87,7 +112,7 @@ module _ (command : SerialCommand) (name : Bytes) (old now : ShelfState) (first 
       no_data Check outcome f = refl
 
       told : (line : Bytes) → ((out : SinkState) → Says 1 err err' line result ⊎ WantsMemory err err' result → Answers out) → Says 1 err err' line result ⊎ WantsMemory err err' result → Ends
-      told line answer says = ends (λ out. answer out says) (said_elsewhere 1 err err' line result (λ e. omega arith) says)
+      told line answer says = ends 1 (λ e. omega arith) (λ e. omega arith) (λ e. omega arith) (λ out. answer out says) (said_told 1 err err' line result says)
 
       by_error : (error : BuildError) → IsRefused text error → RefusesText name error err err' result → Ends
       by_error (errors.Lex fault) is says = told (of_line name fault.line (lex_word fault.kind)) (λ out. said_or_wanted (Some (request_for command name)) old now out err err' 1 _ result
@@ -129,29 +154,36 @@ module _ (name : Bytes) (tree : Program) (old now new : ShelfState) (has : HasPr
   }
 
   module _ (err err' : SinkState) (result : ℕ) where
-    no_columns : (fault : LoadFault) → IsLoad now new (declarations tree.items) (Err fault) → RefusesData tree fault err err' result
-        → ((out : SinkState) → Answer (Some (request_for Elide name)) old new out out err err' result) × (result ≡ 4 → (file : Bytes) × IsUnread (Some (request_for Elide name)) old new file)
+    abbrev EndsThere : Type 0
+    EndsThere = AnswersEarly Elide name old new err err' result
+
+    without : (status : ℕ) → status ≢ 0 → status ≢ 3 → ((out : SinkState) → Answer (Some (request_for Elide name)) old new out out err err' result)
+        → (result ≡ 4 → (file : Bytes) × IsUnread (Some (request_for Elide name)) old new file) → IsTold status result → EndsThere
+    without status zero three answer cause told = record { answer = answer; others = others; not_ended = no_end status result zero three told; read_cause = cause }
+
+    without_room : WantsMemory err err' result → EndsThere
+    without_room wants = without 7 (λ e. omega arith) (λ e. omega arith) (λ out. wanted (Some (request_for Elide name)) old new out err err' result wants)
+        (λ four. absurd (not_read_failure 7 result (λ e. omega arith) (inl wants.0) four)) (inl wants.0)
+
+    no_columns : (fault : LoadFault) → IsLoad now new (declarations tree.items) (Err fault) → RefusesData tree fault err err' result → EndsThere
     no_columns (load.Failed number) is (inl (file, file_is, four, line)) =
         let named : file_in is.0 ≡ Some file = sym (next_is_named now.file tree.items number is.0 is.1) ∙ file_is in
         let stops : StopsAt now.file (declarations tree.items) is.0 file = record { number = number; next = is.1; named = named } in
         let missed : IsUnread (Some (request_for Elide name)) old new file =
         column name file tree is.0 reads (stops_before old now has.files (declarations tree.items) is.0 file stops) (failed_since old now new file has.counts (rw named at is.2)) in
-        (λ out. rw four (unread file missed (takes_nothing out) line), λ e. (file, missed))
+        without 4 (λ e. omega arith) (λ e. omega arith) (λ out. rw four (unread file missed (takes_nothing out) line)) (λ e. (file, missed)) (inl four)
     no_columns (load.Refused number fault) is (inl (file, file_is, says)) =
         let named : file_in is.0 ≡ Some file = sym (next_is_named now.file tree.items number is.0 is.1) ∙ file_is in
         let stops : StopsAt now.file (declarations tree.items) is.0 file = record { number = number; next = is.1; named = named } in
-        let line = of_line file fault.row (data_word fault.kind) in (
-          λ out. said (Some (request_for Elide name)) old new out err err' 6 line result
-              (of_text Elide name (passes tree) (file_refused file fault) 6 [] line reads
-              (is.0, stops_before old now has.files (declarations tree.items) is.0 file stops, refused_before old now has.files is.0 fault is.2) refl) (λ e. omega arith) says,
-          λ four. absurd (said_elsewhere 6 err err' line result (λ e. omega arith) (inl says) four),
-        )
-    no_columns (load.Failed number) is (inr wants) = (λ out. wanted (Some (request_for Elide name)) old new out err err' result wants, λ four. absurd (wanted_elsewhere err err' result wants four))
-    no_columns (load.Refused number fault) is (inr wants) =
-        (λ out. wanted (Some (request_for Elide name)) old new out err err' result wants, λ four. absurd (wanted_elsewhere err err' result wants four))
-    no_columns load.NoMemory is wants = (λ out. wanted (Some (request_for Elide name)) old new out err err' result wants, λ four. absurd (wanted_elsewhere err err' result wants four))
+        let line = of_line file fault.row (data_word fault.kind) in
+        let told : IsTold 6 result = said_told 6 err err' line result (inl says) in
+        without 6 (λ e. omega arith) (λ e. omega arith) (λ out. said (Some (request_for Elide name)) old new out err err' 6 line result
+        (of_text Elide name (passes tree) (file_refused file fault) 6 [] line reads
+        (is.0, stops_before old now has.files (declarations tree.items) is.0 file stops, refused_before old now has.files is.0 fault is.2) refl) (λ e. omega arith) says)
+        (λ four. absurd (not_read_failure 6 result (λ e. omega arith) told four)) told
+    no_columns (load.Failed number) is (inr wants) = without_room wants
+    no_columns (load.Refused number fault) is (inr wants) = without_room wants
+    no_columns load.NoMemory is wants = without_room wants
 
-    pub ends_without_columns : (fault : LoadFault) → r ≡ Err fault → RefusesData tree fault err err' result → AnswersEarly Elide name old new err err' result
-    ends_without_columns fault same says =
-        let found = no_columns fault (rw same at is) says in
-        record { answer = found.0; others = others; read_cause = found.1 }
+    pub ends_without_columns : (fault : LoadFault) → r ≡ Err fault → RefusesData tree fault err err' result → EndsThere
+    ends_without_columns fault same says = no_columns fault (rw same at is) says

@@ -12,6 +12,7 @@ use Rattle.spd_top.specs.Requests.{request_for}
 use Rattle.spd_top.specs.Built.{passes, ComesTo}
 use Rattle.spd_top.specs.DataFiles.{columns_loaded, DataComesTo}
 use Rattle.spd_top.specs.Told.{Bytes}
+use Rattle.spd_top.specs.Jobs.{EndsRun}
 use Rattle.spd_top.specs.Serving.{ReadsText, IsUnread, ChangesNoUntouched, Answer}
 
 -- The file of this name was read, and no other, and this is its program.
@@ -34,4 +35,5 @@ pub record HasColumns (name : Bytes) (tree : Program) (columns : List Column) (s
 pub record AnswersEarly (command : SerialCommand) (name : Bytes) (shelf shelf' : ShelfState) (err err' : SinkState) (result : ℕ) : Type 0 where
   pub answer : (out : SinkState) → Answer (Some (request_for command name)) shelf shelf' out out err err' result
   pub others : ChangesNoUntouched (Some (request_for command name)) shelf shelf'
+  pub not_ended : EndsRun result → ⊥
   pub read_cause : result ≡ 4 → (file : Bytes) × IsUnread (Some (request_for command name)) shelf shelf' file

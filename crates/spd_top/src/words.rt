@@ -18,6 +18,14 @@ pub enum SerialCommand {
     Check,
 }
 
+/// A command line that asks for a run.
+#[derive(Clone, Copy)]
+pub(crate) struct RunLine<'a> {
+    /// The operand.
+    pub program: &'a str,
+    pub settings: Settings,
+}
+
 /// The words of a command line, without the program's own name.
 #[derive(Drop)]
 pub struct Words {
@@ -76,10 +84,10 @@ impl Words {
     }
 
     /// The operand and the settings of words that ask for a run.
-    pub(crate) fn run(&self, alloc: Global) -> Result<(&str, Settings), AllocError>
+    pub(crate) fn run(&self, alloc: Global) -> Result<RunLine<'_>, AllocError>
         requires { AskRun self.now }
-        ensures asked { IfOk result (λ found. asked_of self.now ≡ Some (run found.0.now found.1)) }
-        ensures ranges { IfOk result (λ found. AreInRange found.1) }
+        ensures asked { IfOk result (λ line. asked_of self.now ≡ Some (run line.program.now line.settings)) }
+        ensures ranges { IfOk result (λ line. AreInRange line.settings) }
     {
         run_in(alloc, self.words.as_slice())
     }
@@ -118,13 +126,14 @@ fn ask_run_in(words: &[String]) -> bool
 }
 
 /// The operand and the settings of words that ask for a run.
-fn run_in(alloc: Global, words: &[String]) -> Result<(&str, Settings), AllocError>
+fn run_in(alloc: Global, words: &[String]) -> Result<RunLine<'_>, AllocError>
     requires { AskRun (map string_bytes words.now) }
-    ensures asked { IfOk result (λ found. asked_of (map string_bytes words.now) ≡ Some (run found.0.now found.1)) }
-    ensures ranges { IfOk result (λ found. AreInRange found.1) }
+    ensures asked { IfOk result (λ line.
+        asked_of (map string_bytes words.now) ≡ Some (run line.program.now line.settings)) }
+    ensures ranges { IfOk result (λ line. AreInRange line.settings) }
 {
     match read_command(alloc, words) {
-        Ok(Command::Run { program, settings }) => Ok((program, settings)),
+        Ok(Command::Run { program, settings }) => Ok(RunLine { program, settings }),
         Ok(Command::Elide { .. }) => unreachable!(),
         Ok(Command::Check { .. }) => unreachable!(),
         Err(CommandError::NoMemory) => Err(AllocError),

@@ -10,4 +10,4 @@ run_in-requires c = subst AskRun (sym (ap (map string_bytes) c.as_slice.ensures.
 
 pub returns-clause-asked : goal.returns-clause-asked
 returns-clause-asked c =
-    subst (λ (words : List Bytes). IfOk c.run_in.result (λ found. asked_of words ≡ Some (run found.0.now found.1))) (ap (map string_bytes) c.as_slice.ensures.value ∙ c.self.view_is) c.run_in.ensures.asked
+    subst (λ (words : List Bytes). IfOk c.run_in.result (λ line. asked_of words ≡ Some (run line.program.now line.settings))) (ap (map string_bytes) c.as_slice.ensures.value ∙ c.self.view_is) c.run_in.ensures.asked
