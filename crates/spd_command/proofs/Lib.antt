@@ -1,4 +1,5 @@
--- `read_command`, `asked_of`: Numbers, an option's value that was found is a number of 32 bits; Decimals, digits are what
+-- `read_command`, `asked_of`: Numbers, an option's value that was found is a number of 32 bits, and those of a run lie in their ranges; Decimals,
+--   digits are what
 --   `parse` reads.
 -- `are_lawful`, `arguments_in`: Testing, what one word more does to the test; PlainWords, a value begins with no hyphen; Falls,
 --   words that fit are operands and options in some order; Once, an option's word stands as often as the option is given.

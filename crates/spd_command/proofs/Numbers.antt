@@ -2,6 +2,7 @@
 use Rattle.std.proofs.Common.{◌≡◌, ◌∙◌, ◌≤◌, ◌&&◌, ℕ, Bool, true, false, refl, sym, ap, ap₂, arith, List, [], ◌∷◌, length, Option, Some, None, find, cond, nat_le, is_some, option_map, true≢false}
 use Rattle.std.specs.Str.{bytes_eq}
 use Rattle.std.specs.Str.Parse.{digits_value}
+use Rattle.std.specs.Option.{option_map_or}
 use Rattle.std.proofs.lemmas.Slice.Eq.{bytes_eq-Decides}
 use Rattle.std.proofs.lemmas.Bool.Decides.{nat_tests}
 use Rattle.clap.specs.declared.parser.matches.ArgMatches.{ArgMatches}
@@ -13,6 +14,7 @@ use Rattle.spd_command.specs.Table.{argument_name, kind_of_value}
 use Rattle.spd_command.specs.Values.{is_value, is_number}
 use Rattle.spd_command.specs.Lines.{Passed, passes, value_in, are_values}
 use Rattle.spd_command.specs.Found.{IsFound, MayBeNumber}
+use Rattle.spd_command.specs.Asked.{number_or, settings_in, AreInRange}
 use Rattle.spd_command.proofs.Decimals.{decimal_of}
 
 -- ---- a name is that of one argument
@@ -51,6 +53,29 @@ module _ (a : Argument) where
   value_is (p ∷ all) word values e =
       let (here, later) = both (is_value (kind_of_value p.argument) p.value) _ values in
       value_here (passes a p) p (find (passes a) all) word refl here (value_is all word later) e
+
+-- ---- the numbers of a run
+
+module _ (all : List Passed) (values : are_values all ≡ true) (a : Argument) (least most : ℕ) (kind : kind_of_value a ≡ Number least most) where
+  value_between : (word : List ℕ) → value_in a all ≡ Some word → (least ≤ digits_value 10 word) × (digits_value 10 word ≤ most)
+  value_between word e =
+      let d = decimal_of least most word (ap (λ k. is_value k word) (sym kind) ∙ value_is a all word values e) in (d.low, d.high)
+
+  number_between : (standard : ℕ) → least ≤ standard → standard ≤ most → (least ≤ number_or standard a all) × (number_or standard a all ≤ most)
+  number_between standard low high = by_value (value_in a all) refl
+    where
+      by_value : (found : Option (List ℕ)) → value_in a all ≡ found
+          → (least ≤ option_map_or (digits_value 10) found standard) × (option_map_or (digits_value 10) found standard ≤ most)
+      by_value None e = (low, high)
+      by_value (Some word) e = value_between word e
+
+pub settings_between : (all : List Passed) → are_values all ≡ true → AreInRange (settings_in all)
+settings_between all values = record {
+  workers = number_between all values Workers 1 64 refl 4 (omega arith) (omega arith);
+  moves = number_between all values Moves 1 262144 refl 16384 (omega arith) (omega arith);
+  nodes = (number_between all values Nodes 0 262144 refl 16384 (omega arith) (omega arith)).1;
+  grow = (number_between all values Grow 0 65536 refl 32768 (omega arith) (omega arith)).1;
+}
 
 -- a number of some range is one of 32 bits
 wider : (least most : ℕ) (word : List ℕ) → most ≤ 4294967295 → is_number least most word ≡ true → is_number 0 4294967295 word ≡ true

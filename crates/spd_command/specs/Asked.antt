@@ -1,5 +1,5 @@
 -- What a command line asks for.
-use Rattle.std.specs.Prelude.{◌≡◌, true, is_some, ℕ, List, [], ◌∷◌, Option, None, option_map, option_and_then, unwrap_or}
+use Rattle.std.specs.Prelude.{◌≡◌, ◌≤◌, true, is_some, ℕ, List, [], ◌∷◌, Option, None, option_map, option_and_then, unwrap_or}
 use Rattle.std.specs.Option.{option_map_or}
 use Rattle.std.specs.Str.Parse.{digits_value}
 use Rattle.spd_words.specs.declared.scheme.Scheme.{Scheme}
@@ -62,6 +62,18 @@ name_of (run program settings) = name.Run
 -- the command of a command line
 abbrev pub name_in : List (List ℕ) → Option CommandName
 name_in words = option_map name_of (asked_of words)
+
+-- Each number lies in its option's range.
+pub record AreInRange (settings : Settings) : Type 0 where
+  pub workers : (1 ≤ settings.workers) × (settings.workers ≤ 64)
+  pub moves : (1 ≤ settings.moves) × (settings.moves ≤ 262144)
+  pub nodes : settings.nodes ≤ 262144
+  pub grow : settings.grow ≤ 65536
+
+-- A run's settings do.
+abbrev pub KeepsRanges : Asked → Type 0
+KeepsRanges (run program settings) = AreInRange settings
+KeepsRanges _ = Unit {0}
 
 -- The words are this command with lawful words behind it.
 pub record IsLine (words : List (List ℕ)) (command : CommandName) (behind : List (List ℕ)) : Type 0 where

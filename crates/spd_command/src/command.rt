@@ -7,7 +7,7 @@ ghost use Rattle.std.specs.Str.Parse.{digits_value};
 ghost use Rattle.spd_command.specs.Lines.{Passed};
 ghost use Rattle.spd_command.specs.Values.{scheme_called};
 ghost use Rattle.spd_command.specs.Found.{word_found, IsFound, MayBeNumber};
-ghost use Rattle.spd_command.specs.Asked.{asked_of, asked_by, name_in, settings_in, IsLine};
+ghost use Rattle.spd_command.specs.Asked.{asked_of, asked_by, name_in, settings_in, KeepsRanges, IsLine};
 ghost use Rattle.spd_command.specs.Seen.{asked};
 
 use crate::argument::Argument;
@@ -105,7 +105,8 @@ fn settings(found: &ArgMatches) -> Settings
 /// A command with the values that were found for its arguments.
 fn command_of<'a>(name: CommandName, found: &ArgMatches<'a>) -> Command<'a>
     requires { (all : List Passed) × IsFound found.now all }
-    ensures { (all : List Passed) → IsFound found.now all → asked result ≡ asked_by name all }
+    ensures asked { (all : List Passed) → IsFound found.now all → asked result ≡ asked_by name all }
+    ensures ranges { KeepsRanges (asked result) }
 {
     match name {
         CommandName::Elide => Command::Elide {
@@ -154,6 +155,7 @@ pub fn lawful_command(words: &[String]) -> Option<CommandName>
 pub fn read_command<'a>(alloc: Global, words: &'a [String]) -> Result<Command<'a>, CommandError>
     ensures read { IfOk result (λ command. Some (asked command) ≡ asked_of (map string_bytes words.now)) }
     ensures refused { (result ≡ Err CommandError.Refused) ↔ (asked_of (map string_bytes words.now) ≡ None) }
+    ensures ranges { IfOk result (λ command. KeepsRanges (asked command)) }
 {
     let Some((name, rest)) = line_of(words) else {
         return Err(CommandError::Refused);

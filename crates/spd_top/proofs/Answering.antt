@@ -1,117 +1,96 @@
--- The answers of the top call.
-use Rattle.std.proofs.Common.{◌≡◌, ◌≢◌, ℕ, ◌≤◌, List, [], length, Some, codes, ◌⊎◌, inl, inr, refl, sym, ap, ◌∙◌, arith}
-use Rattle.spd_io.specs.Shelf.{ShelfState, MayBe, FailedAt, KeepsFiles, ShelfKeepsFaults, ChangesNoOther}
-use Rattle.spd_io.specs.Sink.{SinkState}
-use Rattle.spd_syntax.specs.Limits.{max_text}
-use Rattle.spd_syntax.specs.declared.tree.Program.{Program}
-use Rattle.spd_syntax.specs.declared.tree.ItemKind.TheVariants as i
-use Rattle.spd_cols.specs.Loading.{declarations, IsNoFileOf}
-use Rattle.spd_cols.proofs.LoadSteps.{loaded_before, refused_before}
+-- The rows of `Answer`, and what a status tells of what failed.
+use Rattle.std.proofs.Common.{◌≡◌, ◌≢◌, ◌<◌, ℕ, [], Option, codes, ◌⊎◌, inl, inr, refl, ap, ◌∙◌, arith}
+use Rattle.spd_io.specs.Shelf.{FileTold, ShelfState}
+use Rattle.spd_io.specs.Sink.{SinkState, Failed, SameFaults}
+use Rattle.spd_meaning.specs.Eval as eval
+use Rattle.spd_meaning.specs.Eval.{Fell, Back, Fault}
+use Rattle.spd_meaning.specs.Programs.{main_meaning}
+use Rattle.spd_meaning.specs.Printed.{printed}
+use Rattle.spd_level.specs.Columns.{columns_in}
 use Rattle.spd_top.specs.declared.words.SerialCommand.{SerialCommand}
 use Rattle.spd_top.specs.declared.words.SerialCommand.TheVariants.{Elide, Check}
-use Rattle.spd_top.specs.declared.building.BuildError.{BuildError}
-use Rattle.spd_top.specs.declared.building.BuildError.TheVariants as errors
-use Rattle.spd_top.specs.Built.{TextOutcome, ComesTo, IsRefused, lex_fault, parse_fault, check_fault, passes}
-use Rattle.spd_top.specs.DataFiles.{DataOutcome, columns_loaded, file_unread, file_refused, StopsAt, DataComesTo}
-use Rattle.spd_top.specs.Told.{Bytes, of_file, of_line, lex_word, parse_word, check_word, Told, elided}
-use Rattle.spd_top.specs.Serving.{command_of, operand_of, ReadsText, ReadsData, IsUnread, ChangesNoUntouched, column, of_text, RefusesText, RunsProgram, runs_told, runs_unread, runs_without_room, Outcome, GetsOrFails, unread, Says, WantsMemory, Tells, took, out_stopped, err_stopped, memory_stopped, Answer, as_defined, out_failed, err_failed, no_memory, no_more_memory}
+use Rattle.spd_top.specs.Requests.{Request}
+use Rattle.spd_top.specs.Built.{TextOutcome, lex_fault, parse_fault, check_fault, passes}
+use Rattle.spd_top.specs.DataFiles.{DataOutcome, columns_loaded, file_unread, file_refused}
+use Rattle.spd_top.specs.Told.{Bytes, of_file, Told, end_told, told_of}
+use Rattle.spd_top.specs.Serving.{IsUnread, Outcome, refused, missing, too_long, of_text, GetsOrFails, Says, WantsMemory, Tells, took, out_stopped, err_stopped, memory_stopped, Answer, as_defined, unread, out_failed, err_failed, no_memory, no_more_memory}
 use Rattle.spd_top.proofs.Putting.{takes_nothing}
-use Rattle.spd_top.proofs.Loads.{stops_before, failed_since}
 
--- a fault of a text
-abbrev IsFault : TextOutcome → Type 0
-IsFault (passes tree) = ⊥
-IsFault _ = Unit {0}
-
-module _ (words : List Bytes) (shelf shelf' : ShelfState) (out err err' : SinkState) where
+module _ (request : Option Request) (shelf shelf' : ShelfState) (out err err' : SinkState) where
   abbrev answers : ℕ → Type 0
-  answers status = Answer words shelf shelf' out out err err' status
+  answers status = Answer request shelf shelf' out out err err' status
 
   -- a status that is told by a line, with nothing for `out`
-  pub said : (status : ℕ) (line : Bytes) (result : ℕ) → Outcome words shelf.file status [] line → status ≢ 4 → Says status err err' line result → answers result
+  pub said : (status : ℕ) (line : Bytes) (result : ℕ) → Outcome request shelf.file status [] line → status ≢ 4 → Says status err err' line result → answers result
   said status line result outcome other (inl s) = rw s.0 (as_defined status [] line outcome (takes_nothing out) s.1)
   said status line result outcome other (inr s) = rw s.0 (err_failed status [] line outcome other (takes_nothing out) s.1)
 
   pub wanted : (result : ℕ) → WantsMemory err err' result → answers result
   wanted result w = rw w.0 (no_memory (takes_nothing out) w.1)
 
-  pub said_or_wanted : (status : ℕ) (line : Bytes) (result : ℕ) → Outcome words shelf.file status [] line → status ≢ 4 → Says status err err' line result ⊎ WantsMemory err err' result → answers result
+  pub said_or_wanted : (status : ℕ) (line : Bytes) (result : ℕ) → Outcome request shelf.file status [] line → status ≢ 4 → Says status err err' line result ⊎ WantsMemory err err' result → answers result
   said_or_wanted status line result outcome other (inl s) = said status line result outcome other s
   said_or_wanted status line result outcome other (inr w) = wanted result w
 
   -- a file that could not be read
-  pub not_read_told : (name : Bytes) (result : ℕ) → IsUnread words shelf shelf' name → ((result ≡ 4) × GetsOrFails err err' (of_file name (codes "read failed"))) ⊎ WantsMemory err err' result → answers result
+  pub not_read_told : (name : Bytes) (result : ℕ) → IsUnread request shelf shelf' name → ((result ≡ 4) × GetsOrFails err err' (of_file name (codes "read failed"))) ⊎ WantsMemory err err' result → answers result
   not_read_told name result failed (inl s) = rw s.0 (unread name failed (takes_nothing out) s.1)
   not_read_told name result failed (inr w) = wanted result w
 
-  -- a text that gave no program
-  pub not_had : (command : SerialCommand) (name text : Bytes) (error : BuildError) (result : ℕ) → command_of words ≡ Some command → operand_of words ≡ Some name → MayBe (shelf.file name) text
-      → length text ≤ max_text → IsRefused text error → RefusesText name error err err' result → answers result
-  not_had command name text error result w o may within is said = by_error error is said
-    where
-      reads : (outcome : TextOutcome) → ComesTo text outcome → ReadsText words shelf.file command name outcome
-      reads outcome comes = record { command_is = w; operand_is = o; text = text; may = may; within = within; comes = comes }
-
-      -- no data file is read
-      no_data : (command : SerialCommand) (outcome : TextOutcome) → IsFault outcome → ReadsData shelf.file command outcome (columns_loaded [])
-      no_data Elide (lex_fault fault) f = refl
-      no_data Elide (parse_fault fault) f = refl
-      no_data Elide (check_fault fault) f = refl
-      no_data Elide (passes tree) f = absurd f
-      no_data Check outcome f = refl
-
-      by_error : (error : BuildError) → IsRefused text error → RefusesText name error err err' result → answers result
-      by_error (errors.Lex fault) is said = said_or_wanted 1 (of_line name fault.line (lex_word fault.kind)) result
-          (of_text command name (lex_fault fault) (columns_loaded []) 1 [] _ (reads (lex_fault fault) is) (no_data command (lex_fault fault) tt) refl) (λ e. omega arith) said
-      by_error (errors.Parse fault) is said = said_or_wanted 1 (of_line name fault.line (parse_word fault.kind)) result
-          (of_text command name (parse_fault fault) (columns_loaded []) 1 [] _ (reads (parse_fault fault) is) (no_data command (parse_fault fault) tt) refl) (λ e. omega arith) said
-      by_error (errors.Check fault) is said = said_or_wanted 1 (of_line name fault.line (check_word fault.kind)) result
-          (of_text command name (check_fault fault) (columns_loaded []) 1 [] _ (reads (check_fault fault) is) (no_data command (check_fault fault) tt) refl) (λ e. omega arith) said
-      by_error errors.NoMemory is said = wanted result said
-
 -- what a command tells of a program
-pub has_told : (words : List Bytes) (shelf shelf' : ShelfState) (t : Told) (out out' err err' : SinkState) (result : ℕ) → Outcome words shelf.file t.status t.bytes t.line → t.status ≢ 4
-    → Tells t out out' err err' result → Answer words shelf shelf' out out' err err' result
-has_told words shelf shelf' t out out' err err' result outcome other (took got told) = as_defined t.status t.bytes t.line outcome got told
-has_told words shelf shelf' t out out' err err' result outcome other (out_stopped fails told) = out_failed t.status t.bytes t.line outcome fails told
-has_told words shelf shelf' t out out' err err' result outcome other (err_stopped got fails) = err_failed t.status t.bytes t.line outcome other got fails
-has_told words shelf shelf' t out out' err err' result outcome other (memory_stopped front told) = no_more_memory t.status t.bytes t.line outcome front told
+pub has_told : (request : Option Request) (shelf shelf' : ShelfState) (t : Told) (out out' err err' : SinkState) (result : ℕ) → Outcome request shelf.file t.status t.bytes t.line → t.status ≢ 4
+    → Tells t out out' err err' result → Answer request shelf shelf' out out' err err' result
+has_told request shelf shelf' t out out' err err' result outcome other (took got told) = as_defined t.status t.bytes t.line outcome got told
+has_told request shelf shelf' t out out' err err' result outcome other (out_stopped fails told) = out_failed t.status t.bytes t.line outcome fails told
+has_told request shelf shelf' t out out' err err' result outcome other (err_stopped got fails) = err_failed t.status t.bytes t.line outcome other got fails
+has_told request shelf shelf' t out out' err err' result outcome other (memory_stopped front told) = no_more_memory t.status t.bytes t.line outcome front told
 
-tells_other : (t : Told) (out out' err err' : SinkState) (result : ℕ) → t.status ≢ 4 → Tells t out out' err err' result → result ≢ 4
-tells_other t out out' err err' result other (took got told) e = other e
-tells_other t out out' err err' result other (out_stopped fails told) e = absurd (omega arith)
-tells_other t out out' err err' result other (err_stopped got fails) e = absurd (omega arith)
-tells_other t out out' err err' result other (memory_stopped front told) e = absurd (omega arith)
+-- ---- a status tells what failed
 
--- ---- a run over a shelf that has been read before
+told_elsewhere : (command : SerialCommand) (name : Bytes) (outcome : TextOutcome) (came : DataOutcome) → (told_of command name outcome came).status ≢ 5
+told_elsewhere command name (lex_fault fault) came h = cc
+told_elsewhere command name (parse_fault fault) came h = cc
+told_elsewhere command name (check_fault fault) came h = cc
+told_elsewhere Check name (passes tree) came h = cc
+told_elsewhere Elide name (passes tree) (file_unread file) h = cc
+told_elsewhere Elide name (passes tree) (file_refused file fault) h = cc
+told_elsewhere Elide name (passes tree) (columns_loaded columns) h =
+    by_end (main_meaning tree.items (columns_in tree.items columns)).end (printed (main_meaning tree.items (columns_in tree.items columns)).given) h
+  where
+    by_end : {A : Type 0} (e : eval.End A) (bytes : Bytes) → (end_told name e bytes).status ≢ 5
+    by_end (Fell vars) bytes h = cc
+    by_end (Back value) bytes h = cc
+    by_end (Fault code) bytes h = cc
 
-module _ (words : List Bytes) (name : Bytes) (tree : Program) (old now new : ShelfState) (files : KeepsFiles old now) (counts : ShelfKeepsFaults old now)
-    (reads : ReadsText words old.file Elide name (passes tree)) where
-  -- what a shelf told then, it had told before
-  data_before : (came : DataOutcome) → DataComesTo now.file (declarations tree.items) came → (elided name tree came).status ≢ 4
-      → DataComesTo old.file (declarations tree.items) came
-  data_before (columns_loaded columns) h other = loaded_before old now files (declarations tree.items) columns h
-  data_before (file_unread file) h other = absurd (other refl)
-  data_before (file_refused file fault) h other =
-      (h.0, stops_before old now files (declarations tree.items) h.0 file h.1, refused_before old now files h.0 fault h.2)
+-- No outcome has the status of a sink that failed.
+outcome_elsewhere : (request : Option Request) (file : Bytes → FileTold) (status : ℕ) (bytes line : Bytes) → Outcome request file status bytes line → status ≢ 5
+outcome_elsewhere request file status bytes line (refused e) h = absurd (omega arith)
+outcome_elsewhere request file status bytes line (missing n d m) h = absurd (omega arith)
+outcome_elsewhere request file status bytes line (too_long n d m) h = absurd (omega arith)
+outcome_elsewhere request file status bytes line (of_text command name outcome came s z l reads data_read told) h =
+    told_elsewhere command name outcome came (ap (λ (t : Told). t.status) told ∙ h)
 
-  not_loaded : (what : i.the_data) (file : Bytes) → StopsAt now.file (declarations tree.items) what file → FailedAt now new file → IsUnread words old new file
-  not_loaded what file stops failed =
-      column name file tree what reads (stops_before old now files (declarations tree.items) what file stops) (failed_since old now new file counts failed)
+module _ (request : Option Request) (shelf shelf' : ShelfState) (out out' err err' : SinkState) where
+  pub answer_writes : (result : ℕ) → Answer request shelf shelf' out out' err err' result → result ≡ 5 → Failed out out' ⊎ Failed err err'
+  answer_writes result (as_defined status bytes line outcome got told) five = absurd (outcome_elsewhere request shelf.file status bytes line outcome five)
+  answer_writes result (unread name failed got told) five = absurd (omega arith)
+  answer_writes result (out_failed status bytes line outcome fails told) five = inl fails.0
+  answer_writes result (err_failed status bytes line outcome other got fails) five = inr fails.0
+  answer_writes result (no_memory got told) five = absurd (omega arith)
+  answer_writes result (no_more_memory status bytes line outcome front told) five = absurd (omega arith)
 
-  pub ran : (out out' err err' : SinkState) (result : ℕ) → RunsProgram name tree now new out out' err err' result → Answer words old new out out' err err' result
-  ran out out' err err' result (runs_told came comes other tells) =
-      let t = elided name tree came in
-      has_told words old new t out out' err err' result (of_text Elide name (passes tree) came t.status t.bytes t.line reads (data_before came comes other) refl) other tells
-  ran out out' err err' result (runs_unread what file stops failed same four line) =
-      rw (sym same, four) (unread file (not_loaded what file stops failed) (takes_nothing out) line)
-  ran out out' err err' result (runs_without_room same wanted) = rw (sym same, wanted.0) (no_memory (takes_nothing out) wanted.1)
+  pub answer_keeps_out : (result : ℕ) → Answer request shelf shelf' out out' err err' result → result ≢ 5 → SameFaults out out'
+  answer_keeps_out result (as_defined status bytes line outcome got told) other = got.1
+  answer_keeps_out result (unread name failed got told) other = got.1
+  answer_keeps_out result (out_failed status bytes line outcome fails told) other = absurd (other refl)
+  answer_keeps_out result (err_failed status bytes line outcome not_read got fails) other = got.1
+  answer_keeps_out result (no_memory got told) other = got.1
+  answer_keeps_out result (no_more_memory status bytes line outcome front told) other = front.1
 
-  pub ran_unread : (out out' err err' : SinkState) (result : ℕ) → RunsProgram name tree now new out out' err err' result → result ≡ 4 → (file : Bytes) × IsUnread words old new file
-  ran_unread out out' err err' result (runs_told came comes other tells) four = absurd (tells_other (elided name tree came) out out' err err' result other tells four)
-  ran_unread out out' err err' result (runs_unread what file stops failed same is line) four = (file, not_loaded what file stops failed)
-  ran_unread out out' err err' result (runs_without_room same wanted) four = let is = wanted.0 in absurd (omega arith)
-
-  pub ran_others : ((other : Bytes) → IsNoFileOf other (declarations tree.items) → new.faults other ≡ now.faults other) → ChangesNoOther old now name → ChangesNoUntouched words old new
-  ran_others later first other untouched =
-      later other (untouched.columns name tree reads) ∙ first other (λ e. untouched.operand (reads.operand_is ∙ ap Some (sym e)))
+  pub answer_keeps_err : (result : ℕ) → Answer request shelf shelf' out out' err err' result → result < 4 → SameFaults err err'
+  answer_keeps_err result (as_defined status bytes line outcome got told) few = told.1
+  answer_keeps_err result (unread name failed got told) few = absurd (omega arith)
+  answer_keeps_err result (out_failed status bytes line outcome fails told) few = absurd (omega arith)
+  answer_keeps_err result (err_failed status bytes line outcome other got fails) few = absurd (omega arith)
+  answer_keeps_err result (no_memory got told) few = absurd (omega arith)
+  answer_keeps_err result (no_more_memory status bytes line outcome front told) few = absurd (omega arith)

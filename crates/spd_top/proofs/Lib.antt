@@ -1,8 +1,11 @@
--- `Words::served`, `Words::operand`: Asking, what the words ask of a command that runs on one thread.
--- `serve_still`: `Answer`, by cases of the outcome. Answering: which row it is. Tellings: what a command tells of a program
---   (`Tells`), by what its run, its text or its data files came to; Putting: what was put. Loads: what a shelf tells
---   after a read it told before; loaded columns fit; files that are told come to one thing.
--- `serve_arguments` answers what `serve_still` does for the words: Claims, in each of its three ways out; Texts: whether
+-- `Words::served`, `Words::operand`, `Words::run`: Asking, what the words ask for, by the name of their command.
+-- `serve`, `serve_still`: `Answer`, by cases of the outcome. Answering: which row it is, and what a status tells of what failed.
+--   Early: what ends a command before its program runs (`AnswersEarly`), by PROGRAM's text and by its data files.
+--   Ended: what is answered where it ran; Tellings: what is told of a program that runs (`Tells`), by what its main came to;
+--   Putting: what was put. Loads: what a shelf tells after a read it told before; loaded columns fit; files that are told come to
+--   one thing. Logging: what a log says once the jobs of a run were added to it (`LogsJobs`).
+-- `coins_for`, `AreNewCoins`: NewCoins, one coin more.
+-- `serve_arguments` answers what `serve` does for the words: Claims, in each of its three ways out; Texts: whether
 --   the words are UTF-8.
 -- `build`, `ComesTo`: Refusals, what an error tells. OneFault, OneOutcome: a text comes to one outcome, since a first
 --   fault has none before it, so of two the later isn't first; and a command line over told files has one,
@@ -15,5 +18,9 @@ pub mod Putting
 pub mod Loads
 pub mod Tellings
 pub mod Answering
+pub mod Early
+pub mod Logging
+pub mod NewCoins
+pub mod Ended
 pub mod Claims
 pub mod Texts

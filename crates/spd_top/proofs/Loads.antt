@@ -35,6 +35,12 @@ stops_before old now keeps items what file s = record {
 pub failed_since : (old now new : ShelfState) (name : List ℕ) → ShelfKeepsFaults old now → FailedAt now new name → FailedAt old new name
 failed_since old now new name keeps failed = rose_before (old.faults name) (now.faults name) (new.faults name) (keeps name) failed
 
+-- a file that is told and may be a text is that text
+pub one_text : (file : FileTold) (text text' : List ℕ) → file ≢ Untold → MayBe file text → MayBe file text' → text ≡ text'
+one_text Untold text text' told a b = absurd (told refl)
+one_text Missing text text' told a b = absurd a
+one_text (Holds held) text text' told a b = sym a ∙ b
+
 -- ---- columns that are loaded fit
 
 short_enough : (short : Bool) (r : Result Column DataFault) (column : Column) → (if short then r else refused_at 0 kind.TooLong) ≡ Ok column → r ≡ Ok column
@@ -101,13 +107,8 @@ module _ (told : List ℕ → FileTold) where
   abbrev Tells : i.the_data → Type 0
   Tells what = (file : List ℕ) → file_in what ≡ Some file → told file ≢ Untold
 
-  told_bytes : (file : FileTold) (a b : List ℕ) → file ≢ Untold → MayBe file a → MayBe file b → a ≡ b
-  told_bytes Untold a b tells x y = absurd (tells refl)
-  told_bytes Missing a b tells x y = absurd x
-  told_bytes (Holds held) a b tells x y = sym x ∙ y
-
   same_bytes : (what : i.the_data) (file : List ℕ) → file_in what ≡ Some file → Tells what → (a b : List ℕ) → MayHold told what a → MayHold told what b → a ≡ b
-  same_bytes what file is tells a b x y = told_bytes (told file) a b (tells file is) (rw is at x) (rw is at y)
+  same_bytes what file is tells a b x y = one_text (told file) a b (tells file is) (rw is at x) (rw is at y)
 
   same_result : (what : i.the_data) (file : List ℕ) → file_in what ≡ Some file → Tells what → (a b : List ℕ) (r s : Result Column DataFault) → MayHold told what a → MayHold told what b
       → column_of_file what a ≡ r → column_of_file what b ≡ s → r ≡ s

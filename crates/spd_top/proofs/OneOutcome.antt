@@ -18,12 +18,12 @@ use Rattle.spd_check.specs.Checks.{faults_of}
 use Rattle.spd_cols.specs.Loading.{declarations}
 use Rattle.spd_top.specs.declared.words.SerialCommand.{SerialCommand}
 use Rattle.spd_top.specs.declared.words.SerialCommand.TheVariants.{Elide, Check}
+use Rattle.spd_top.specs.Requests.{Request, command_asked, program_asked}
 use Rattle.spd_top.specs.Built.{IsProgram, IsFaulty, TextOutcome, lex_fault, parse_fault, check_fault, passes, ComesTo}
 use Rattle.spd_top.specs.DataFiles.{DataOutcome}
 use Rattle.spd_top.specs.Told.{Bytes, of_file, Told, told_of}
-use Rattle.spd_top.specs.Serving.{command_of, operand_of, ReadsText, ReadsData, Outcome, refused, missing, too_long, of_text, SameAnswer, AreAllTold, HasOneOutcome}
-use Rattle.spd_top.proofs.Asking.{has_command}
-use Rattle.spd_top.proofs.Loads.{data_comes_to_one}
+use Rattle.spd_top.specs.Serving.{ReadsText, ReadsData, Outcome, refused, missing, too_long, of_text, SameAnswer, AreAllTold, HasOneOutcome}
+use Rattle.spd_top.proofs.Loads.{one_text, data_comes_to_one}
 use Rattle.spd_top.proofs.OneFault.{one_first_fault, spelled_has_no_fault}
 
 -- ---- one outcome of a text
@@ -86,12 +86,6 @@ same_told t u s s' z z' l l' e d d' =
     let same : ◌≡◌ {A = Told} (record { status = s; bytes = z; line = l }) (record { status = s'; bytes = z'; line = l' }) = sym d ∙ (e ∙ d') in
     (ap (λ (x : Told). x.status) same, ap (λ (x : Told). x.bytes) same, ap (λ (x : Told). x.line) same)
 
--- a file that is told and may be a text is that text
-one_text : (file : FileTold) (text text' : Bytes) → file ≢ Untold → MayBe file text → MayBe file text' → text ≡ text'
-one_text Untold text text' told a b = absurd (told refl)
-one_text Missing text text' told a b = absurd a
-one_text (Holds held) text text' told a b = sym a ∙ b
-
 not_both : (file : FileTold) (text : Bytes) → file ≢ Untold → MayExceed file max_text → MayBe file text → length text ≤ max_text → ⊥
 not_both Untold text told a b h = told refl
 not_both Missing text told a b h = a
@@ -104,42 +98,42 @@ not_exceeding : (file : FileTold) → file ≡ Missing → MayExceed file max_te
 not_exceeding file e b = subst (λ f. MayExceed f max_text) e b
 
 -- two data outcomes of the same text
-module _ (words : List Bytes) (file : Bytes → FileTold) (told : AreAllTold words file) where
-  same_data : (k : SerialCommand) (n : Bytes) (o : TextOutcome) (d d' : DataOutcome) → ReadsText words file k n o → ReadsData file k o d → ReadsData file k o d' → d ≡ d'
+module _ (request : Option Request) (file : Bytes → FileTold) (told : AreAllTold request file) where
+  same_data : (k : SerialCommand) (n : Bytes) (o : TextOutcome) (d d' : DataOutcome) → ReadsText request file k n o → ReadsData file k o d → ReadsData file k o d' → d ≡ d'
   same_data Elide n (passes tree) d d' reads x y = data_comes_to_one file (declarations tree.items) (told.columns n tree reads) d d' x y
   same_data Elide n (lex_fault f) d d' reads x y = x ∙ sym y
   same_data Elide n (parse_fault f) d d' reads x y = x ∙ sym y
   same_data Elide n (check_fault f) d d' reads x y = x ∙ sym y
   same_data Check n o d d' reads x y = x ∙ sym y
 
-  same_name : (n n' : Bytes) → operand_of words ≡ Some n → operand_of words ≡ Some n' → n ≡ n'
+  same_name : (n n' : Bytes) → program_asked request ≡ Some n → program_asked request ≡ Some n' → n ≡ n'
   same_name n n' e d = let same : ◌≡◌ {A = Option Bytes} (Some n) (Some n') = sym e ∙ d in cc
 
-  same_command : (k k' : SerialCommand) → command_of words ≡ Some k → command_of words ≡ Some k' → k ≡ k'
+  same_command : (k k' : SerialCommand) → command_asked request ≡ Some k → command_asked request ≡ Some k' → k ≡ k'
   same_command k k' e d = let same : ◌≡◌ {A = Option SerialCommand} (Some k) (Some k') = sym e ∙ d in cc
 
-  not_refused : (n : Bytes) → command_of words ≡ None → operand_of words ≡ Some n → ⊥
-  not_refused n e d = has_command words n e d
+  not_refused : (n : Bytes) → request ≡ None → program_asked request ≡ Some n → ⊥
+  not_refused n e d = let wrong : ◌≡◌ {A = Option Bytes} None (Some n) = sym (ap program_asked e) ∙ d in cc
 
-  missing_no_text : (n n' : Bytes) (k : SerialCommand) (o : TextOutcome) → operand_of words ≡ Some n → file n ≡ Missing → ReadsText words file k n' o → ⊥
+  missing_no_text : (n n' : Bytes) (k : SerialCommand) (o : TextOutcome) → program_asked request ≡ Some n → file n ≡ Missing → ReadsText request file k n' o → ⊥
   missing_no_text n n' k o e m reads =
-      not_missing (file n') reads.text (ap file (sym (same_name n n' e reads.operand_is)) ∙ m) reads.may
+      not_missing (file n') reads.text (ap file (sym (same_name n n' e (ap program_asked reads.asks))) ∙ m) reads.may
 
-  long_no_text : (n n' : Bytes) (k : SerialCommand) (o : TextOutcome) → operand_of words ≡ Some n → MayExceed (file n) max_text → ReadsText words file k n' o → ⊥
+  long_no_text : (n n' : Bytes) (k : SerialCommand) (o : TextOutcome) → program_asked request ≡ Some n → MayExceed (file n) max_text → ReadsText request file k n' o → ⊥
   long_no_text n n' k o e m reads =
-      not_both (file n') reads.text (told.operand n' reads.operand_is) (subst (λ (y : Bytes). MayExceed (file y) max_text) (same_name n n' e reads.operand_is) m) reads.may reads.within
+      not_both (file n') reads.text (told.operand n' (ap program_asked reads.asks)) (subst (λ (y : Bytes). MayExceed (file y) max_text) (same_name n n' e (ap program_asked reads.asks)) m) reads.may reads.within
 
-  missing_not_long : (n n' : Bytes) → operand_of words ≡ Some n → operand_of words ≡ Some n' → file n ≡ Missing → MayExceed (file n') max_text → ⊥
+  missing_not_long : (n n' : Bytes) → program_asked request ≡ Some n → program_asked request ≡ Some n' → file n ≡ Missing → MayExceed (file n') max_text → ⊥
   missing_not_long n n' e d m x = not_exceeding (file n') (ap file (sym (same_name n n' e d)) ∙ m) x
 
-  same_line : (n n' what : Bytes) → operand_of words ≡ Some n → operand_of words ≡ Some n' → of_file n what ≡ of_file n' what
+  same_line : (n n' what : Bytes) → program_asked request ≡ Some n → program_asked request ≡ Some n' → of_file n what ≡ of_file n' what
   same_line n n' what e d = ap (λ (y : Bytes). of_file y what) (same_name n n' e d)
 
-  pub one_outcome : (s s' : ℕ) (z z' l l' : Bytes) → Outcome words file s z l → Outcome words file s' z' l' → SameAnswer s s' z z' l l'
+  pub one_outcome : (s s' : ℕ) (z z' l l' : Bytes) → Outcome request file s z l → Outcome request file s' z' l' → SameAnswer s s' z z' l l'
   one_outcome s s' z z' l l' (refused e) (refused d) = (refl, refl, refl)
   one_outcome s s' z z' l l' (refused e) (missing n d m) = absurd (not_refused n e d)
   one_outcome s s' z z' l l' (refused e) (too_long n d m) = absurd (not_refused n e d)
-  one_outcome s s' z z' l l' (refused e) (of_text k n o came s2 z2 l2 r d t) = absurd (not_refused n e r.operand_is)
+  one_outcome s s' z z' l l' (refused e) (of_text k n o came s2 z2 l2 r d t) = absurd (not_refused n e (ap program_asked r.asks))
   one_outcome s s' z z' l l' (missing n d m) (refused e) = absurd (not_refused n e d)
   one_outcome s s' z z' l l' (missing n d m) (missing n' d' m') = (refl, refl, same_line n n' _ d d')
   one_outcome s s' z z' l l' (missing n d m) (too_long n' d' m') = absurd (missing_not_long n n' d d' m m')
@@ -148,17 +142,17 @@ module _ (words : List Bytes) (file : Bytes → FileTold) (told : AreAllTold wor
   one_outcome s s' z z' l l' (too_long n d m) (missing n' d' m') = absurd (missing_not_long n' n d' d m' m)
   one_outcome s s' z z' l l' (too_long n d m) (too_long n' d' m') = (refl, refl, same_line n n' _ d d')
   one_outcome s s' z z' l l' (too_long n d m) (of_text k n' o came s2 z2 l2 r d' t) = absurd (long_no_text n n' k o d m r)
-  one_outcome s s' z z' l l' (of_text k n o came s2 z2 l2 r d t) (refused e) = absurd (not_refused n e r.operand_is)
+  one_outcome s s' z z' l l' (of_text k n o came s2 z2 l2 r d t) (refused e) = absurd (not_refused n e (ap program_asked r.asks))
   one_outcome s s' z z' l l' (of_text k n o came s2 z2 l2 r d t) (missing n' d' m') = absurd (missing_no_text n' n k o d' m' r)
   one_outcome s s' z z' l l' (of_text k n o came s2 z2 l2 r d t) (too_long n' d' m') = absurd (long_no_text n' n k o d' m' r)
   one_outcome s s' z z' l l' (of_text k n o came s2 z2 l2 r d t) (of_text k' n' o' came' s3 z3 l3 r' d' t') =
-      let names : n ≡ n' = same_name n n' r.operand_is r'.operand_is in
-      let commands : k ≡ k' = same_command k k' r.command_is r'.command_is in
-      let texts : r.text ≡ r'.text = one_text (file n) r.text r'.text (told.operand n r.operand_is) r.may (subst (λ (y : Bytes). MayBe (file y) r'.text) (sym names) r'.may) in
+      let names : n ≡ n' = same_name n n' (ap program_asked r.asks) (ap program_asked r'.asks) in
+      let commands : k ≡ k' = same_command k k' (ap command_asked r.asks) (ap command_asked r'.asks) in
+      let texts : r.text ≡ r'.text = one_text (file n) r.text r'.text (told.operand n (ap program_asked r.asks)) r.may (subst (λ (y : Bytes). MayBe (file y) r'.text) (sym names) r'.may) in
       let one : o ≡ o' = comes_to_one r.text o o' r.comes (subst (λ (y : Bytes). ComesTo y o') (sym texts) r'.comes) in
       let read' : ReadsData file k o came' = subst (λ (w : TextOutcome). ReadsData file k w came') (sym one) (subst (λ (w : SerialCommand). ReadsData file w o' came') (sym commands) d') in
       let datas : came ≡ came' = same_data k n o came came' r d read' in
       same_told (told_of k n o came) (told_of k' n' o' came') s2 s3 z2 z3 l2 l3 (rw (commands, names, one, datas) refl) t t'
 
-pub has_one_outcome : (words : List Bytes) (file : Bytes → FileTold) → HasOneOutcome words file
-has_one_outcome words file told = one_outcome words file told
+pub has_one_outcome : (request : Option Request) (file : Bytes → FileTold) → HasOneOutcome request file
+has_one_outcome request file told = one_outcome request file told

@@ -1,6 +1,5 @@
--- What a command tells of a program that passes the checks, by what its run or its text came to.
-use Rattle.std.proofs.Common.{◌≡◌, ◌≢◌, ◌∙◌, ℕ, ℤ, List, [], Some, Err, ◌⊎◌, inl, inr, refl, sym, ap, subst, arith}
-use Rattle.spd_io.specs.Shelf.{ShelfState}
+-- What a command tells of a program that runs, by what its main came to.
+use Rattle.std.proofs.Common.{◌≡◌, ◌≢◌, ◌∙◌, ℕ, ℤ, List, [], Result, Ok, Err, IfOk, OnOk, OnErr, ◌⊎◌, inl, inr, refl, sym, ap, subst, arith}
 use Rattle.spd_io.specs.Sink.{SinkState, Gets, GetsFront, Failed, SameFaults}
 use Rattle.spd_data.specs.declared.column.Column.{Column}
 use Rattle.spd_syntax.specs.declared.tree.Program.{Program}
@@ -11,19 +10,18 @@ use Rattle.spd_meaning.specs.Programs.{main_meaning}
 use Rattle.spd_meaning.specs.Printed.{printed}
 use Rattle.spd_code.specs.declared.tree.CodeTree.{CodeTree}
 use Rattle.spd_code.specs.Alike.{valued, valued_end}
-use Rattle.spd_cols.specs.declared.fault.LoadFault.{LoadFault}
-use Rattle.spd_cols.specs.declared.fault.LoadFault.TheVariants as load
-use Rattle.spd_cols.specs.Loading.{file_in, declarations, IsLoad}
-use Rattle.spd_cols.proofs.FilesOfColumns.{next_is_named}
 use Rattle.spd_check.specs.Checked.{MeansItself}
 use Rattle.spd_level.specs.Columns.{columns_in, Fits, context_of}
 use Rattle.spd_level.proofs.Reading.{fitting}
 use Rattle.spd_spine.specs.Walk.{main_eval, EndsSo}
+use Rattle.spd_spine.specs.declared.turn.End.{End}
 use Rattle.spd_spine.specs.declared.turn.End.TheVariants as end
-use Rattle.spd_top.specs.DataFiles.{columns_loaded, file_refused}
-use Rattle.spd_top.specs.Told.{Bytes, of_line, of_fault, data_word, Told, end_told, run_told, elided}
-use Rattle.spd_top.specs.Serving.{Says, WantsMemory, GetsOrFails, write_failed, Tells, took, out_stopped, err_stopped, memory_stopped, RefusesData, RunsProgram, runs_told, runs_unread, runs_without_room}
-use Rattle.spd_top.proofs.Putting.{takes_nothing, whole_is_front}
+use Rattle.spd_spine.specs.declared.turn.RunError.{RunError}
+use Rattle.spd_spine.specs.declared.turn.RunError.TheVariants.{NoMemory, WriteFailed}
+use Rattle.spd_top.specs.DataFiles.{columns_loaded}
+use Rattle.spd_top.specs.Told.{Bytes, of_fault, Told, end_told, run_told, elided}
+use Rattle.spd_top.specs.Serving.{Says, WantsMemory, GetsOrFails, write_failed, Tells, took, out_stopped, err_stopped, memory_stopped, TellsEnd}
+use Rattle.spd_top.proofs.Putting.{takes_nothing, whole_is_front, ok_well, ended_for_memory}
 
 -- ---- no status of a text is that of a file that could not be read
 
@@ -34,30 +32,6 @@ end_status name (Fault code) bytes h = cc
 
 pub run_status : {A : Type 0} (name : Bytes) (a : Eval A) → (run_told name a).status ≢ 4
 run_status name a h = end_status name a.end (printed a.given) h
-
--- ---- a refusal
-
--- a status that is told by its line alone
-pub line_told : (status : ℕ) (line : Bytes) (out err err' : SinkState) (result : ℕ) → Says status err err' line result ⊎ WantsMemory err err' result
-    → Tells (record { status = status; bytes = []; line = line }) out out err err' result
-line_told status line out err err' result (inl (inl s)) = rw s.0 (took (takes_nothing out) s.1)
-line_told status line out err err' result (inl (inr s)) = rw s.0 (err_stopped (takes_nothing out) s.1)
-line_told status line out err err' result (inr w) = rw w.0 (memory_stopped (whole_is_front out out [] (takes_nothing out).0, refl) w.1)
-
--- why a program has no columns
-module _ (name : Bytes) (tree : Program) (old new : ShelfState) (out err err' : SinkState) (result : ℕ) where
-  pub not_loaded : (fault : LoadFault) → IsLoad old new (declarations tree.items) (Err fault) → RefusesData tree fault err err' result
-      → RunsProgram name tree old new out out err err' result
-  not_loaded (load.Failed number) is (inl s) =
-      let named : file_in is.0 ≡ Some s.0 = sym (next_is_named old.file tree.items number is.0 is.1) ∙ s.1 in
-      runs_unread is.0 s.0 record { number = number; next = is.1; named = named } (rw named at is.2) refl s.2 s.3
-  not_loaded (load.Failed number) is (inr w) = runs_without_room refl w
-  not_loaded (load.Refused number fault) is (inl s) =
-      let named : file_in is.0 ≡ Some s.0 = sym (next_is_named old.file tree.items number is.0 is.1) ∙ s.1 in
-      runs_told (file_refused s.0 fault) (is.0, record { number = number; next = is.1; named = named }, is.2) (λ e. omega arith)
-      (line_told 6 (of_line s.0 fault.row (data_word fault.kind)) out err err' result (inl s.2))
-  not_loaded (load.Refused number fault) is (inr w) = runs_without_room refl w
-  not_loaded load.NoMemory is w = runs_without_room refl w
 
 -- ---- a run
 
@@ -119,3 +93,22 @@ module _ (name : Bytes) (program : Program) (tree : CodeTree) (columns : List Co
   pub runs_out_of_memory : (out out' err err' : SinkState) (result : ℕ) → SameFaults out out' → GetsFront out out' (printed main.given) → WantsMemory err err' result → Tells is_told out out' err err' result
   runs_out_of_memory out out' err err' result kept front w =
       rw w.0 (subst (λ (t : Told). Tells t out out' err err' 7) told_is (memory_stopped (rw (end_bytes name main.end (printed main.given)) front, kept) w.1))
+
+  pub run_tells : (ended : Result End RunError) (out out' err err' : SinkState) (result : ℕ) → OnOk ended (Gets out out' (printed main.given)) → IfOk ended (λ e. EndsSo e main.end)
+      → OnErr ended (GetsFront out out' (printed main.given)) → (ended ≡ Err WriteFailed → Failed out out') → (ended ≢ Err WriteFailed → SameFaults out out')
+      → TellsEnd name ended err err' result → Tells is_told out out' err err' result
+  run_tells (Ok end.Done) out out' err err' result all ends front cause kept told = rw (told.0, told.1) (runs_done out out' err all (kept (ok_well end.Done WriteFailed)) ends)
+  run_tells (Ok (end.Fault code)) out out' err err' result all ends front cause kept told =
+      runs_to_fault code out out' err err' result all (kept (ok_well (end.Fault code) WriteFailed)) ends told
+  run_tells (Err WriteFailed) out out' err err' result all ends front cause kept told = rw told.0 (runs_stopped out out' err err' (cause refl) front told.1)
+  run_tells (Err NoMemory) out out' err err' result all ends front cause kept told =
+      runs_out_of_memory out out' err err' result (kept (ended_for_memory (Err NoMemory) refl)) front told
+
+-- How main ended is told by no status of a file that could not be read.
+pub end_elsewhere : (name : Bytes) (ended : Result End RunError) (err err' : SinkState) (result : ℕ) → TellsEnd name ended err err' result → result ≢ 4
+end_elsewhere name (Ok end.Done) err err' result told four = let is = told.0 in absurd (omega arith)
+end_elsewhere name (Ok (end.Fault code)) err err' result (inl (inl says)) four = let is = says.0 in absurd (omega arith)
+end_elsewhere name (Ok (end.Fault code)) err err' result (inl (inr says)) four = let is = says.0 in absurd (omega arith)
+end_elsewhere name (Ok (end.Fault code)) err err' result (inr wanted) four = let is = wanted.0 in absurd (omega arith)
+end_elsewhere name (Err WriteFailed) err err' result told four = let is = told.0 in absurd (omega arith)
+end_elsewhere name (Err NoMemory) err err' result told four = let is = told.0 in absurd (omega arith)

@@ -1,5 +1,9 @@
 pub mod Built
 pub mod DataFiles
 pub mod Told
+pub mod Requests
 pub mod Serving
+pub mod Jobs
+pub mod Early
+pub mod Coins
 pub mod Command

@@ -1,5 +1,5 @@
--- What a command line over files defines, and what is answered where files, sinks or memory fail.
-use Rattle.std.specs.Prelude.{◌≡◌, ◌≢◌, ℕ, ◌≤◌, List, [], ◌++◌, length, Option, Some, None, option_and_then, codes, ◌⊎◌}
+-- What a command line's request over files defines, and what is answered where files, sinks or memory fail.
+use Rattle.std.specs.Prelude.{◌≡◌, ◌≢◌, ℕ, ◌≤◌, [], ◌++◌, length, Option, Some, None, Result, Ok, Err, codes, ◌⊎◌}
 use Rattle.spd_io.specs.Shelf.{FileTold, Untold, Missing, MayBe, MayExceed, ShelfState, FailedAt}
 use Rattle.spd_io.specs.Sink.{SinkState, Gets, GetsFront, Failed, SameFaults}
 use Rattle.spd_syntax.specs.Limits.{max_text}
@@ -8,37 +8,18 @@ use Rattle.spd_syntax.specs.declared.tree.ItemKind.TheVariants as i
 use Rattle.spd_cols.specs.declared.fault.LoadFault.{LoadFault}
 use Rattle.spd_cols.specs.declared.fault.LoadFault.TheVariants as load
 use Rattle.spd_cols.specs.Loading.{declarations, file_of_column, IsNoFileOf}
-use Rattle.spd_command.specs.declared.command_name.CommandName.{CommandName}
-use Rattle.spd_command.specs.declared.command_name.CommandName.TheVariants as name
-use Rattle.spd_command.specs.Asked.{Asked, elide, check, asked_of, name_in}
+use Rattle.spd_spine.specs.declared.turn.End.{End}
+use Rattle.spd_spine.specs.declared.turn.End.TheVariants as end
+use Rattle.spd_spine.specs.declared.turn.RunError.{RunError}
+use Rattle.spd_spine.specs.declared.turn.RunError.TheVariants as failed
 use Rattle.spd_top.specs.declared.words.SerialCommand.{SerialCommand}
-use Rattle.spd_top.specs.declared.words.SerialCommand.TheVariants.{Elide, Check}
+use Rattle.spd_top.specs.declared.words.SerialCommand.TheVariants.{Elide}
+use Rattle.spd_top.specs.Requests.{Request, request_for, program_asked}
 use Rattle.spd_top.specs.Built.{TextOutcome, passes, ComesTo}
 use Rattle.spd_top.specs.DataFiles.{DataOutcome, columns_loaded, DataComesTo, StopsAt, AreTold}
-use Rattle.spd_top.specs.Told.{Bytes, end_of_line, of_file, of_line, lex_word, parse_word, check_word, data_word, Told, elided, told_of}
+use Rattle.spd_top.specs.Told.{Bytes, end_of_line, of_file, of_line, of_fault, lex_word, parse_word, check_word, data_word, Told, told_of}
 use Rattle.spd_top.specs.declared.building.BuildError.{BuildError}
 use Rattle.spd_top.specs.declared.building.BuildError.TheVariants as errors
-
--- ---- words
-
--- the command of a name that runs on one thread
-abbrev pub serial_of : CommandName → Option SerialCommand
-serial_of name.Elide = Some Elide
-serial_of name.Check = Some Check
-serial_of name.Run = None
-
-abbrev pub operand_in : Option Asked → Option Bytes
-operand_in (Some (elide program)) = Some program
-operand_in (Some (check program)) = Some program
-operand_in _ = None
-
--- the command on one thread that the words ask for; nothing where they are refused
-abbrev pub command_of : List Bytes → Option SerialCommand
-command_of words = option_and_then serial_of (name_in words)
-
--- its operand, PROGRAM
-abbrev pub operand_of : List Bytes → Option Bytes
-operand_of words = operand_in (asked_of words)
 
 -- ---- the lines that tell of no file
 
@@ -58,52 +39,51 @@ abbrev pub ReadsData : (Bytes → FileTold) → SerialCommand → TextOutcome �
 ReadsData file Elide (passes tree) came = DataComesTo file (declarations tree.items) came
 ReadsData file _ _ came = came ≡ columns_loaded []
 
--- The words name this command and file, whose text comes to this.
-pub record ReadsText (words : List Bytes) (file : Bytes → FileTold) (command : SerialCommand) (name : Bytes) (outcome : TextOutcome) : Type 0 where
-  pub command_is : command_of words ≡ Some command
-  pub operand_is : operand_of words ≡ Some name
+-- The request is this command and file, whose text comes to this.
+pub record ReadsText (request : Option Request) (file : Bytes → FileTold) (command : SerialCommand) (name : Bytes) (outcome : TextOutcome) : Type 0 where
+  pub asks : request ≡ Some (request_for command name)
   pub text : Bytes
   pub may : MayBe (file name) text
   pub within : length text ≤ max_text
   pub comes : ComesTo text outcome
 
-pub data Outcome (words : List Bytes) (file : Bytes → FileTold) : ℕ → Bytes → Bytes → Type 0 where
-  refused : command_of words ≡ None → Outcome words file 2 [] words_refused
-  missing : (name : Bytes) → operand_of words ≡ Some name → file name ≡ Missing → Outcome words file 4 [] (of_file name (codes "read failed"))
-  too_long : (name : Bytes) → operand_of words ≡ Some name → MayExceed (file name) max_text → Outcome words file 1 [] (of_file name (codes "TooLong"))
-  of_text : (command : SerialCommand) (name : Bytes) (outcome : TextOutcome) (came : DataOutcome) (status : ℕ) (bytes line : Bytes) → ReadsText words file command name outcome
-      → ReadsData file command outcome came → told_of command name outcome came ≡ record { status = status; bytes = bytes; line = line } → Outcome words file status bytes line
+pub data Outcome (request : Option Request) (file : Bytes → FileTold) : ℕ → Bytes → Bytes → Type 0 where
+  refused : request ≡ None → Outcome request file 2 [] words_refused
+  missing : (name : Bytes) → program_asked request ≡ Some name → file name ≡ Missing → Outcome request file 4 [] (of_file name (codes "read failed"))
+  too_long : (name : Bytes) → program_asked request ≡ Some name → MayExceed (file name) max_text → Outcome request file 1 [] (of_file name (codes "TooLong"))
+  of_text : (command : SerialCommand) (name : Bytes) (outcome : TextOutcome) (came : DataOutcome) (status : ℕ) (bytes line : Bytes) → ReadsText request file command name outcome
+      → ReadsData file command outcome came → told_of command name outcome came ≡ record { status = status; bytes = bytes; line = line } → Outcome request file status bytes line
 
 -- two statuses, with the bytes for `out` and the lines for `err`
 abbrev pub SameAnswer : ℕ → ℕ → Bytes → Bytes → Bytes → Bytes → Type 0
 SameAnswer status status' bytes bytes' line line' = (status ≡ status') × (bytes ≡ bytes') × (line ≡ line')
 
 -- It is told what file PROGRAM is, and what the data files are that its program declares.
-pub record AreAllTold (words : List Bytes) (file : Bytes → FileTold) : Type 0 where
-  pub operand : (name : Bytes) → operand_of words ≡ Some name → file name ≢ Untold
-  pub columns : (name : Bytes) (tree : Program) → ReadsText words file Elide name (passes tree) → AreTold file (declarations tree.items)
+pub record AreAllTold (request : Option Request) (file : Bytes → FileTold) : Type 0 where
+  pub operand : (name : Bytes) → program_asked request ≡ Some name → file name ≢ Untold
+  pub columns : (name : Bytes) (tree : Program) → ReadsText request file Elide name (passes tree) → AreTold file (declarations tree.items)
 
--- A command line has one outcome, where it is told what its files are.
-abbrev pub HasOneOutcome : List Bytes → (Bytes → FileTold) → Type 0
-HasOneOutcome words file = AreAllTold words file → (status status' : ℕ) (bytes bytes' line line' : Bytes)
-    → Outcome words file status bytes line → Outcome words file status' bytes' line' → SameAnswer status status' bytes bytes' line line'
+-- A request has one outcome, where it is told what its files are.
+abbrev pub HasOneOutcome : Option Request → (Bytes → FileTold) → Type 0
+HasOneOutcome request file = AreAllTold request file → (status status' : ℕ) (bytes bytes' line line' : Bytes)
+    → Outcome request file status bytes line → Outcome request file status' bytes' line' → SameAnswer status status' bytes bytes' line line'
 
 -- ---- files that are read
 
 -- Reading this file failed: PROGRAM, or a data file of its program, where those before it were loaded.
-pub data IsUnread (words : List Bytes) (shelf shelf' : ShelfState) : Bytes → Type 0 where
-  program : (name : Bytes) → operand_of words ≡ Some name → FailedAt shelf shelf' name → IsUnread words shelf shelf' name
-  column : (name file : Bytes) (tree : Program) (what : i.the_data) → ReadsText words shelf.file Elide name (passes tree)
-      → StopsAt shelf.file (declarations tree.items) what file → FailedAt shelf shelf' file → IsUnread words shelf shelf' file
+pub data IsUnread (request : Option Request) (shelf shelf' : ShelfState) : Bytes → Type 0 where
+  program : (name : Bytes) → program_asked request ≡ Some name → FailedAt shelf shelf' name → IsUnread request shelf shelf' name
+  column : (name file : Bytes) (tree : Program) (what : i.the_data) → ReadsText request shelf.file Elide name (passes tree)
+      → StopsAt shelf.file (declarations tree.items) what file → FailedAt shelf shelf' file → IsUnread request shelf shelf' file
 
 -- The name is neither PROGRAM's nor that of a data file of its program.
-pub record IsUntouched (words : List Bytes) (file : Bytes → FileTold) (name : Bytes) : Type 0 where
-  pub operand : operand_of words ≢ Some name
-  pub columns : (program : Bytes) (tree : Program) → ReadsText words file Elide program (passes tree) → IsNoFileOf name (declarations tree.items)
+pub record IsUntouched (request : Option Request) (file : Bytes → FileTold) (name : Bytes) : Type 0 where
+  pub operand : program_asked request ≢ Some name
+  pub columns : (program : Bytes) (tree : Program) → ReadsText request file Elide program (passes tree) → IsNoFileOf name (declarations tree.items)
 
 -- No count of such a name changes.
-abbrev pub ChangesNoUntouched : List Bytes → ShelfState → ShelfState → Type 0
-ChangesNoUntouched words shelf shelf' = (name : Bytes) → IsUntouched words shelf.file name → shelf'.faults name ≡ shelf.faults name
+abbrev pub ChangesNoUntouched : Option Request → ShelfState → ShelfState → Type 0
+ChangesNoUntouched request shelf shelf' = (name : Bytes) → IsUntouched request shelf.file name → shelf'.faults name ≡ shelf.faults name
 
 -- ---- the answer
 
@@ -155,33 +135,29 @@ RefusesData tree (load.Refused number fault) old new result =
     ⊎ WantsMemory old new result
 RefusesData tree load.NoMemory old new result = WantsMemory old new result
 
--- What running a program over a shelf came to.
-pub data RunsProgram (name : Bytes) (tree : Program) (shelf shelf' : ShelfState) (out out' err err' : SinkState) (result : ℕ) : Type 0 where
-  runs_told : (came : DataOutcome) → DataComesTo shelf.file (declarations tree.items) came → (elided name tree came).status ≢ 4
-      → Tells (elided name tree came) out out' err err' result
-      → RunsProgram name tree shelf shelf' out out' err err' result
-  -- A data file could not be read.
-  runs_unread : (what : i.the_data) (file : Bytes) → StopsAt shelf.file (declarations tree.items) what file → FailedAt shelf shelf' file → out ≡ out' → result ≡ 4
-      → GetsOrFails err err' (of_file file (codes "read failed")) → RunsProgram name tree shelf shelf' out out' err err' result
-  -- Memory ran out before main ran.
-  runs_without_room : out ≡ out' → WantsMemory err err' result → RunsProgram name tree shelf shelf' out out' err err' result
+-- How main ended was told.
+abbrev pub TellsEnd : Bytes → Result End RunError → SinkState → SinkState → ℕ → Type 0
+TellsEnd name (Ok end.Done) old new result = (result ≡ 0) × (new ≡ old)
+TellsEnd name (Ok (end.Fault code)) old new result = Says 3 old new (of_fault name code) result ⊎ WantsMemory old new result
+TellsEnd name (Err failed.WriteFailed) old new result = (result ≡ 5) × GetsOrFails old new write_failed
+TellsEnd name (Err failed.NoMemory) old new result = WantsMemory old new result
 
 -- What was answered, by what shelf, `out` and `err` were before and after.
-pub data Answer (words : List Bytes) (shelf shelf' : ShelfState) (out out' err err' : SinkState) : ℕ → Type 0 where
+pub data Answer (request : Option Request) (shelf shelf' : ShelfState) (out out' err err' : SinkState) : ℕ → Type 0 where
   -- the outcome
-  as_defined : (status : ℕ) (bytes line : Bytes) → Outcome words shelf.file status bytes line → Takes out out' bytes → Takes err err' line
-      → Answer words shelf shelf' out out' err err' status
+  as_defined : (status : ℕ) (bytes line : Bytes) → Outcome request shelf.file status bytes line → Takes out out' bytes → Takes err err' line
+      → Answer request shelf shelf' out out' err err' status
   -- A file could not be read.
-  unread : (name : Bytes) → IsUnread words shelf shelf' name → Takes out out' [] → GetsOrFails err err' (of_file name (codes "read failed"))
-      → Answer words shelf shelf' out out' err err' 4
+  unread : (name : Bytes) → IsUnread request shelf shelf' name → Takes out out' [] → GetsOrFails err err' (of_file name (codes "read failed"))
+      → Answer request shelf shelf' out out' err err' 4
   -- `out` failed in the bytes of the outcome.
-  out_failed : (status : ℕ) (bytes line : Bytes) → Outcome words shelf.file status bytes line → FailsIn out out' bytes → GetsOrFails err err' write_failed
-      → Answer words shelf shelf' out out' err err' 5
+  out_failed : (status : ℕ) (bytes line : Bytes) → Outcome request shelf.file status bytes line → FailsIn out out' bytes → GetsOrFails err err' write_failed
+      → Answer request shelf shelf' out out' err err' 5
   -- `err` failed in the line of the outcome, which isn't that of a file that could not be read.
-  err_failed : (status : ℕ) (bytes line : Bytes) → Outcome words shelf.file status bytes line → status ≢ 4 → Takes out out' bytes → FailsIn err err' line
-      → Answer words shelf shelf' out out' err err' 5
+  err_failed : (status : ℕ) (bytes line : Bytes) → Outcome request shelf.file status bytes line → status ≢ 4 → Takes out out' bytes → FailsIn err err' line
+      → Answer request shelf shelf' out out' err err' 5
   -- Memory ran out before anything was put to `out`.
-  no_memory : Takes out out' [] → GetsOrFails err err' out_of_memory → Answer words shelf shelf' out out' err err' 7
+  no_memory : Takes out out' [] → GetsOrFails err err' out_of_memory → Answer request shelf shelf' out out' err err' 7
   -- Memory ran out when `out` had got the first of the bytes of the outcome.
-  no_more_memory : (status : ℕ) (bytes line : Bytes) → Outcome words shelf.file status bytes line → TakesFront out out' bytes → GetsOrFails err err' out_of_memory
-      → Answer words shelf shelf' out out' err err' 7
+  no_more_memory : (status : ℕ) (bytes line : Bytes) → Outcome request shelf.file status bytes line → TakesFront out out' bytes → GetsOrFails err err' out_of_memory
+      → Answer request shelf shelf' out out' err err' 7

@@ -1,16 +1,21 @@
 // The whole command: what the program does, as a function of its arguments, its files and its sinks.
 ghost use Rattle.std.specs.Prelude.{◌≡◌, ◌≢◌, ◌<◌, ◌⊎◌, ◌↔◌, ℕ, List, IfOk, OnErr, IsTrue, Some, None};
 ghost use Rattle.spd_io.specs.Sink.{Failed, SameFaults};
-ghost use Rattle.spd_top.specs.Serving.{command_of, words_refused, IsUnread, ChangesNoUntouched, Says, WantsMemory, Answer};
+ghost use Rattle.spd_top.specs.Requests.{request_of};
+ghost use Rattle.spd_top.specs.Serving.{words_refused, IsUnread, ChangesNoUntouched, Says, WantsMemory, Answer};
 ghost use Rattle.spd_top.specs.Command.{words_of, AreText, OfWords, WhereNotText};
 
-use crate::serving::serve_still;
+use crate::coins::coins_for;
+use crate::on_workers::serve;
 use crate::telling::{out_of_memory, refuse_words};
 use crate::words::Words;
 use spd_io::{Shelf, Sink};
 use spd_list::Seq;
+use spd_work::{Open, RunLog};
 use std::alloc::{AllocError, Global};
 use std::str;
+use std::sync::Wait;
+use std::thread::Threads;
 
 /// The arguments behind the program's own name.
 fn words_of(arguments: &[Seq<u8>]) -> &[Seq<u8>]
@@ -34,7 +39,7 @@ fn are_text(words: &[Seq<u8>]) -> bool
     true
 }
 
-/// The words as `serve_still` takes them.
+/// The words as `serve` takes them.
 fn to_words(alloc: Global, texts: &[Seq<u8>]) -> Result<Words, AllocError>
     requires { AreText texts.now }
     ensures { IfOk result (λ words. words ≡ texts.now) }
@@ -49,12 +54,47 @@ fn to_words(alloc: Global, texts: &[Seq<u8>]) -> Result<Words, AllocError>
     Ok(words)
 }
 
+/// Does what words say, with the coins that their options ask for, a gate that is open, and a new log.
+fn serve_words<R: Threads + Wait + Sync, F: Shelf, O: Sink, E: Sink>(
+    rt: &R,
+    alloc: Global,
+    words: &Words,
+    shelf: &mut F,
+    out: &mut O,
+    err: &mut E,
+) -> u8
+    ensures answer { Answer (request_of words.now) (F.state shelf.old) (F.state shelf.new)
+        (O.state out.old) (O.state out.new) (E.state err.old) (E.state err.new) result }
+    ensures refused { request_of words.now ≡ None → Says 2 (E.state err.old) (E.state err.new) words_refused result ⊎
+        WantsMemory (E.state err.old) (E.state err.new) result }
+    ensures uncalled { request_of words.now ≡ None → shelf.new ≡ shelf.old }
+    ensures others { ChangesNoUntouched (request_of words.now) (F.state shelf.old) (F.state shelf.new) }
+    ensures read_cause { result ≡ 4 → (name : List ℕ) ×
+        IsUnread (request_of words.now) (F.state shelf.old) (F.state shelf.new) name }
+    ensures write_cause { result ≡ 5 →
+        Failed (O.state out.old) (O.state out.new) ⊎ Failed (E.state err.old) (E.state err.new) }
+    ensures out_kept { result ≢ 5 → SameFaults (O.state out.old) (O.state out.new) }
+    ensures err_kept { result < 4 → SameFaults (E.state err.old) (E.state err.new) }
+{
+    match coins_for(alloc, words) {
+        Ok(coins) => {
+            let mut coins = coins;
+            let mut log = RunLog::new();
+            let coins = coins.as_mut_slice();
+            serve(rt, alloc, words, shelf, out, err, coins, &Open, &mut log)
+        }
+        Err(_) => out_of_memory(err),
+    }
+}
+
 /// Does what the arguments of a program say, of which the first is its own name and is not looked
 /// at, and answers the status that the program ends with.
 ///
-/// The words behind it go to `serve_still` as they are; where one isn't UTF-8 they are refused.
+/// The words behind it go to `serve` as they are; where one isn't UTF-8 they are refused. The coins of a run
+/// are made by the words' own options.
 /// Arguments that could not be had for want of memory are answered as such.
-pub fn serve_arguments<F: Shelf, O: Sink, E: Sink>(
+pub fn serve_arguments<R: Threads + Wait + Sync, F: Shelf, O: Sink, E: Sink>(
+    rt: &R,
     alloc: Global,
     arguments: Result<Seq<Seq<u8>>, AllocError>,
     shelf: &mut F,
@@ -63,24 +103,25 @@ pub fn serve_arguments<F: Shelf, O: Sink, E: Sink>(
 ) -> u8
     // The answer is that to the words.
     ensures answer { OfWords arguments (λ words.
-        Answer words (F.state shelf.old) (F.state shelf.new) (O.state out.old) (O.state out.new)
-        (E.state err.old) (E.state err.new) result) }
+        Answer (request_of words) (F.state shelf.old) (F.state shelf.new)
+        (O.state out.old) (O.state out.new) (E.state err.old) (E.state err.new) result) }
     // Words that aren't UTF-8 are refused, whatever memory there is, and arguments that could not be had are told.
     ensures not_text { WhereNotText arguments (Says 2 (E.state err.old) (E.state err.new) words_refused result) }
     ensures not_had { OnErr arguments (WantsMemory (E.state err.old) (E.state err.new) result) }
     // Refused words are told as such, unless memory runs out.
-    ensures refused { OfWords arguments (λ words. command_of words ≡ None →
+    ensures refused { OfWords arguments (λ words. request_of words ≡ None →
         Says 2 (E.state err.old) (E.state err.new) words_refused result ⊎
         WantsMemory (E.state err.old) (E.state err.new) result) }
     // Refused words don't call the shelf; arguments that give no words call neither it nor `out`.
-    ensures uncalled { OfWords arguments (λ words. command_of words ≡ None → shelf.new ≡ shelf.old) }
+    ensures uncalled { OfWords arguments (λ words. request_of words ≡ None → shelf.new ≡ shelf.old) }
     ensures uncalled_not_text { WhereNotText arguments ((shelf.new ≡ shelf.old) × (out.new ≡ out.old)) }
     ensures uncalled_not_had { OnErr arguments ((shelf.new ≡ shelf.old) × (out.new ≡ out.old)) }
     // No count changes but that of PROGRAM and those of its data files.
-    ensures others { OfWords arguments (λ words. ChangesNoUntouched words (F.state shelf.old) (F.state shelf.new)) }
+    ensures others { OfWords arguments (λ words.
+        ChangesNoUntouched (request_of words) (F.state shelf.old) (F.state shelf.new)) }
     // 4 comes only where a read of one of these failed, and 5 only where a sink failed.
-    ensures read_cause { OfWords arguments (λ words. result ≡ 4 →
-        (name : List ℕ) × IsUnread words (F.state shelf.old) (F.state shelf.new) name) }
+    ensures read_cause { OfWords arguments (λ words. result ≡ 4 → (name : List ℕ) ×
+        IsUnread (request_of words) (F.state shelf.old) (F.state shelf.new) name) }
     ensures write_cause { result ≡ 5 →
         Failed (O.state out.old) (O.state out.new) ⊎ Failed (E.state err.old) (E.state err.new) }
     // Where `out` failed the status is 5, and where `err` failed it is 4, 5 or 7.
@@ -95,7 +136,7 @@ pub fn serve_arguments<F: Shelf, O: Sink, E: Sink>(
         return refuse_words(err);
     }
     match to_words(alloc, words) {
-        Ok(words) => serve_still(alloc, &words, shelf, out, err),
+        Ok(words) => serve_words(rt, alloc, &words, shelf, out, err),
         Err(_) => out_of_memory(err),
     }
 }

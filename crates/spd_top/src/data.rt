@@ -1,7 +1,6 @@
 // What is told of data files that give no columns.
 
-ghost use Rattle.std.specs.Prelude.{◌≡◌, ◌<◌, Some, MatchOption};
-ghost use Rattle.spd_io.specs.Sink.{Failed};
+ghost use Rattle.std.specs.Prelude.{◌≡◌, Some, MatchOption};
 ghost use Rattle.spd_cols.specs.Loading.{file_of_column};
 ghost use Rattle.spd_top.specs.Serving.{RefusesData};
 
@@ -28,9 +27,7 @@ pub(crate) fn refuse_data<E: Sink>(
     program: &Program,
     fault: LoadFault,
 ) -> u8
-    ensures told { RefusesData program.now fault (E.state err.old) (E.state err.new) result }
-    ensures cause { result ≡ 5 → Failed (E.state err.old) (E.state err.new) }
-    ensures status { 3 < result }
+    ensures { RefusesData program.now fault (E.state err.old) (E.state err.new) result }
 {
     match fault {
         LoadFault::Failed { column } => match file_name(program, column) {

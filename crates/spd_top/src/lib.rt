@@ -2,8 +2,11 @@
 #![tactic(auto)]
 
 mod building;
+mod coins;
 mod command;
 mod data;
+mod loaded;
+mod on_workers;
 mod programs;
 mod serving;
 mod status;
@@ -12,5 +15,6 @@ mod words;
 
 pub use building::{BuildError, build, read};
 pub use command::serve_arguments;
+pub use on_workers::serve;
 pub use serving::serve_still;
 pub use words::{SerialCommand, Words};

@@ -1,20 +1,17 @@
 // What is done with a program that passes the checks.
 
-ghost use Rattle.std.specs.Prelude.{◌≡◌, ◌≢◌, ◌<◌, ◌⊎◌, ℕ, List};
-ghost use Rattle.spd_io.specs.Sink.{Failed, SameFaults};
-ghost use Rattle.spd_cols.specs.Loading.{declarations, IsNoFileOf};
-ghost use Rattle.spd_level.specs.Columns.{Fits};
-ghost use Rattle.spd_top.specs.DataFiles.{columns_loaded};
-ghost use Rattle.spd_top.specs.Told.{elided, checked};
-ghost use Rattle.spd_top.specs.Serving.{Tells, RunsProgram, GetsOrFails, write_failed};
+ghost use Rattle.std.specs.Prelude.{◌≡◌, ◌≢◌, ◌<◌, ◌⊎◌, ℕ, List, Some};
+ghost use Rattle.spd_io.specs.Sink.{SameFaults};
+ghost use Rattle.spd_top.specs.declared.words.SerialCommand.TheVariants.{Elide, Check};
+ghost use Rattle.spd_top.specs.Requests.{request_for};
+ghost use Rattle.spd_top.specs.Told.{checked};
+ghost use Rattle.spd_top.specs.Serving.{IsUnread, ChangesNoUntouched, Answer, Tells, TellsEnd, GetsOrFails, write_failed};
 
-use crate::data::refuse_data;
+use crate::loaded::{code_of, load_program};
 use crate::status;
 use crate::telling::{fail_run, out_of_memory, tell};
 use spd_canonical::print_program;
 use spd_check::Code;
-use spd_cols::load;
-use spd_data::Data;
 use spd_io::{Shelf, Sink, write_all_of};
 use spd_machine::ElideRegions;
 use spd_spine::{End, RunError, run_main};
@@ -29,26 +26,16 @@ fn fail_write<E: Sink>(err: &mut E) -> u8
     status::WRITE_FAILED
 }
 
-/// Runs a program over its columns, and answers the status. Its main writes each line as it comes to it.
-fn run<O: Sink, E: Sink>(
+/// Tells how main ended, and answers the status.
+pub(crate) fn tell_end<E: Sink>(
     alloc: Global,
-    name: &str,
-    code: &Code,
-    columns: &Data,
-    out: &mut O,
     err: &mut E,
+    name: &str,
+    ended: Result<End, RunError>,
 ) -> u8
-    requires fits { Fits code.now.items columns.now }
-    ensures told { Tells (elided name.now code.now (columns_loaded columns.now)) (O.state out.old) (O.state out.new)
-        (E.state err.old) (E.state err.new) result }
-    ensures cause { result ≡ 5 →
-        Failed (O.state out.old) (O.state out.new) ⊎ Failed (E.state err.old) (E.state err.new) }
-    ensures status { result ≢ 4 }
-    ensures out_kept { result ≢ 5 → SameFaults (O.state out.old) (O.state out.new) }
-    ensures err_kept { result < 4 → SameFaults (E.state err.old) (E.state err.new) }
+    ensures { TellsEnd name.now ended (E.state err.old) (E.state err.new) result }
 {
-    let mut regions = ElideRegions;
-    match run_main(alloc, code.tree(), columns, &mut regions, out) {
+    match ended {
         Ok(End::Done) => status::DONE,
         Ok(End::Fault(fault)) => fail_run(alloc, err, name, fault),
         Err(RunError::WriteFailed) => fail_write(err),
@@ -56,38 +43,39 @@ fn run<O: Sink, E: Sink>(
     }
 }
 
-/// Loads the columns that a program declares, runs it over them, and answers the status.
+/// Runs the program of a file by its serial elision, and answers the status.
 pub(crate) fn elide<F: Shelf, O: Sink, E: Sink>(
     alloc: Global,
     name: &str,
-    code: &Code,
     shelf: &mut F,
     out: &mut O,
     err: &mut E,
 ) -> u8
-    ensures answer { RunsProgram name.now code.now (F.state shelf.old) (F.state shelf.new)
+    ensures answer { Answer (Some (request_for Elide name.now)) (F.state shelf.old) (F.state shelf.new)
         (O.state out.old) (O.state out.new) (E.state err.old) (E.state err.new) result }
-    ensures others { (other : List ℕ) → IsNoFileOf other (declarations code.now.items) →
-        (F.state shelf.new).faults other ≡ (F.state shelf.old).faults other }
-    ensures cause { result ≡ 5 →
-        Failed (O.state out.old) (O.state out.new) ⊎ Failed (E.state err.old) (E.state err.new) }
-    ensures out_kept { result ≢ 5 → SameFaults (O.state out.old) (O.state out.new) }
-    ensures err_kept { result < 4 → SameFaults (E.state err.old) (E.state err.new) }
+    ensures others { ChangesNoUntouched (Some (request_for Elide name.now)) (F.state shelf.old) (F.state shelf.new) }
+    ensures read_cause { result ≡ 4 → (file : List ℕ) ×
+        IsUnread (Some (request_for Elide name.now)) (F.state shelf.old) (F.state shelf.new) file }
 {
-    match load(alloc, code.program(), shelf) {
-        Ok(columns) => run(alloc, name, code, &columns, out, err),
-        Err(fault) => refuse_data(alloc, err, code.program(), fault),
-    }
+    let program = match load_program(alloc, name, shelf, err) {
+        Ok(program) => program,
+        Err(status) => return status,
+    };
+    let mut regions = ElideRegions;
+    let ended = run_main(
+        alloc,
+        program.code.tree(),
+        &program.columns,
+        &mut regions,
+        out,
+    );
+    tell_end(alloc, err, name, ended)
 }
 
 /// Puts the canonical text of a program, as one piece, and answers the status.
-pub(crate) fn show<O: Sink, E: Sink>(alloc: Global, code: &Code, out: &mut O, err: &mut E) -> u8
-    ensures told { Tells (checked code.now) (O.state out.old) (O.state out.new)
+fn show<O: Sink, E: Sink>(alloc: Global, code: &Code, out: &mut O, err: &mut E) -> u8
+    ensures { Tells (checked code.now) (O.state out.old) (O.state out.new)
         (E.state err.old) (E.state err.new) result }
-    ensures cause { result ≡ 5 →
-        Failed (O.state out.old) (O.state out.new) ⊎ Failed (E.state err.old) (E.state err.new) }
-    ensures out_kept { result ≢ 5 → SameFaults (O.state out.old) (O.state out.new) }
-    ensures err_kept { result < 4 → SameFaults (E.state err.old) (E.state err.new) }
 {
     match print_program(alloc, code.program()) {
         Ok(text) => match write_all_of(out, &text) {
@@ -95,5 +83,25 @@ pub(crate) fn show<O: Sink, E: Sink>(alloc: Global, code: &Code, out: &mut O, er
             Err(_) => fail_write(err),
         },
         Err(_) => out_of_memory(err),
+    }
+}
+
+/// Puts the canonical text of the program of a file, and answers the status.
+pub(crate) fn check<F: Shelf, O: Sink, E: Sink>(
+    alloc: Global,
+    name: &str,
+    shelf: &mut F,
+    out: &mut O,
+    err: &mut E,
+) -> u8
+    ensures answer { Answer (Some (request_for Check name.now)) (F.state shelf.old) (F.state shelf.new)
+        (O.state out.old) (O.state out.new) (E.state err.old) (E.state err.new) result }
+    ensures others { ChangesNoUntouched (Some (request_for Check name.now)) (F.state shelf.old) (F.state shelf.new) }
+    ensures read_cause { result ≡ 4 → (file : List ℕ) ×
+        IsUnread (Some (request_for Check name.now)) (F.state shelf.old) (F.state shelf.new) file }
+{
+    match code_of(alloc, name, shelf, err) {
+        Ok(code) => show(alloc, &code, out, err),
+        Err(status) => status,
     }
 }

@@ -2,36 +2,14 @@
 
 ghost use Rattle.std.specs.Prelude.{◌≡◌, ◌≢◌, ◌<◌, ◌⊎◌, ℕ, List, None};
 ghost use Rattle.spd_io.specs.Sink.{Failed, SameFaults};
-ghost use Rattle.spd_top.specs.Serving.{command_of, words_refused, IsUnread, ChangesNoUntouched, Says, Answer, RefusesText, HasOneOutcome};
+ghost use Rattle.spd_top.specs.Requests.{still_request_of};
+ghost use Rattle.spd_top.specs.Serving.{words_refused, IsUnread, ChangesNoUntouched, Says, Answer, HasOneOutcome};
 
-use crate::building::{BuildError, build};
-use crate::programs::{elide, show};
-use crate::telling::{
-    check_word, fail_read, lex_word, out_of_memory, parse_word, refuse_line, refuse_program,
-    refuse_words,
-};
+use crate::programs::{check, elide};
+use crate::telling::{out_of_memory, refuse_words};
 use crate::words::{SerialCommand, Words};
-use spd_io::{Shelf, ShelfFault, Sink};
+use spd_io::{Shelf, Sink};
 use std::alloc::Global;
-
-/// The greatest number of bytes of a program's text.
-const MAX_TEXT: usize = 1_048_576;
-
-/// Tells why a text gave no program, and answers 1, or 7 for want of memory; or 5 where `err` fails.
-fn refuse_text<E: Sink>(alloc: Global, err: &mut E, name: &str, error: BuildError) -> u8
-    ensures { RefusesText name.now error (E.state err.old) (E.state err.new) result }
-{
-    match error {
-        BuildError::Lex(fault) => refuse_line(alloc, err, name, fault.line, lex_word(fault.kind)),
-        BuildError::Parse(fault) => {
-            refuse_line(alloc, err, name, fault.line, parse_word(fault.kind))
-        }
-        BuildError::Check(fault) => {
-            refuse_line(alloc, err, name, fault.line, check_word(fault.kind))
-        }
-        BuildError::NoMemory => out_of_memory(err),
-    }
-}
 
 /// Does what the words of a command line say, over a shelf of files, a sink for the output and one
 /// for errors, and answers the status that the command ends with.
@@ -47,23 +25,24 @@ pub fn serve_still<F: Shelf, O: Sink, E: Sink>(
     err: &mut E,
 ) -> u8
     // The status, the bytes and the line are those of the outcome, unless a read, a sink or memory failed.
-    ensures answer { Answer words.now (F.state shelf.old) (F.state shelf.new) (O.state out.old) (O.state out.new)
-        (E.state err.old) (E.state err.new) result }
+    ensures answer { Answer (still_request_of words.now) (F.state shelf.old) (F.state shelf.new)
+        (O.state out.old) (O.state out.new) (E.state err.old) (E.state err.new) result }
     // Refused words are told as such, whatever memory there is, and the shelf isn't called.
-    ensures refused { command_of words.now ≡ None → Says 2 (E.state err.old) (E.state err.new) words_refused result }
-    ensures uncalled { command_of words.now ≡ None → shelf.new ≡ shelf.old }
+    ensures refused { still_request_of words.now ≡ None →
+        Says 2 (E.state err.old) (E.state err.new) words_refused result }
+    ensures uncalled { still_request_of words.now ≡ None → shelf.new ≡ shelf.old }
     // No count changes but that of PROGRAM and those of its data files.
-    ensures others { ChangesNoUntouched words.now (F.state shelf.old) (F.state shelf.new) }
+    ensures others { ChangesNoUntouched (still_request_of words.now) (F.state shelf.old) (F.state shelf.new) }
     // 4 comes only where a read of one of these failed, and 5 only where a sink failed.
-    ensures read_cause { result ≡ 4 →
-        (name : List ℕ) × IsUnread words.now (F.state shelf.old) (F.state shelf.new) name }
+    ensures read_cause { result ≡ 4 → (name : List ℕ) ×
+        IsUnread (still_request_of words.now) (F.state shelf.old) (F.state shelf.new) name }
     ensures write_cause { result ≡ 5 →
         Failed (O.state out.old) (O.state out.new) ⊎ Failed (E.state err.old) (E.state err.new) }
     // Where `out` failed the status is 5, and where `err` failed it is 4, 5 or 7.
     ensures out_kept { result ≢ 5 → SameFaults (O.state out.old) (O.state out.new) }
     ensures err_kept { result < 4 → SameFaults (E.state err.old) (E.state err.new) }
     // Over a file that is told, the outcome is one.
-    ensures one { HasOneOutcome words.now (F.state shelf.old).file }
+    ensures one { HasOneOutcome (still_request_of words.now) (F.state shelf.old).file }
 {
     let Some(command) = words.served() else {
         return refuse_words(err);
@@ -71,17 +50,8 @@ pub fn serve_still<F: Shelf, O: Sink, E: Sink>(
     let Ok(name) = words.operand(alloc) else {
         return out_of_memory(err);
     };
-    let text = match shelf.read(alloc, name, MAX_TEXT) {
-        Ok(text) => text,
-        Err(ShelfFault::TooLong) => return refuse_program(alloc, err, name, "TooLong"),
-        Err(ShelfFault::Failed) => return fail_read(alloc, err, name),
-        Err(ShelfFault::NoMemory) => return out_of_memory(err),
-    };
-    match build(alloc, &text) {
-        Ok(code) => match command {
-            SerialCommand::Elide => elide(alloc, name, &code, shelf, out, err),
-            SerialCommand::Check => show(alloc, &code, out, err),
-        },
-        Err(error) => refuse_text(alloc, err, name, error),
+    match command {
+        SerialCommand::Elide => elide(alloc, name, shelf, out, err),
+        SerialCommand::Check => check(alloc, name, shelf, out, err),
     }
 }

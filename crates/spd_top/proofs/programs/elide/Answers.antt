@@ -1,28 +1,27 @@
--- The columns that were loaded are those of the program, or why there are none was told.
-use Rattle.std.proofs.Common.{Err, subst}
-use Rattle.spd_syntax.specs.declared.tree.Program.{Program}
-use Rattle.spd_meaning.specs.Programs.{main_meaning}
-use Rattle.spd_cols.specs.Loading.{declarations, IsLoad}
-use Rattle.spd_level.specs.Columns.{columns_in}
-use Rattle.spd_top.specs.DataFiles.{columns_loaded}
-use Rattle.spd_top.specs.Serving.{runs_told, RefusesData}
-use Rattle.spd_top.proofs.Loads.{loaded_fit}
-use Rattle.spd_top.proofs.Tellings.{run_status, not_loaded}
+-- Main was run over the columns that were loaded, and its end was told.
+use Rattle.std.proofs.Common.{Some, subst}
+use Rattle.spd_top.specs.declared.words.SerialCommand.TheVariants.{Elide}
+use Rattle.spd_top.specs.Requests.{request_for}
+use Rattle.spd_top.specs.Serving.{Answer}
+use Rattle.spd_top.proofs.Ended.{end_answers}
 use Rattle.spd_top.proofs.programs.elide.Goals as goal
 
-pub run-requires : goal.run-requires
-run-requires g c = record {
-  fits = loaded_fit (g.F.Shelf.state c.args.shelf.now).file c.args.code.now.items c.in-Ok.columns (rw c.program.ensures.program at c.in-Ok.ensures.answer);
+pub run_main-ended-requires : goal.run_main-ended-requires
+run_main-ended-requires g c = record {
+  main = record {
+    silent = c.tree.ensures.silent;
+    functions_lined = c.tree.ensures.lined.functions;
+    tasks_lined = c.tree.ensures.lined.tasks;
+  };
 }
 
-pub returns-in-Ok-clause-answer : goal.returns-in-Ok-clause-answer
-returns-in-Ok-clause-answer g c =
-    runs_told (columns_loaded c.in-Ok.columns) (rw c.program.ensures.program at c.in-Ok.ensures.answer)
-    (run_status c.args.name.now (main_meaning c.args.code.now.items (columns_in c.args.code.now.items c.in-Ok.columns))) c.run.ensures.told
-
-pub returns-in-Err-clause-answer : goal.returns-in-Err-clause-answer
-returns-in-Err-clause-answer g c =
-    not_loaded c.args.name.now c.args.code.now (g.F.Shelf.state c.args.shelf.now) (g.F.Shelf.state c.load.new.shelf) (g.O.Sink.state c.args.out.now) (g.E.Sink.state c.args.err.now)
-    (g.E.Sink.state c.refuse_data.new.err) c.refuse_data.result c.in-Err.fault
-    (subst (λ (p : Program). IsLoad (g.F.Shelf.state c.args.shelf.now) (g.F.Shelf.state c.load.new.shelf) (declarations p.items) (Err c.in-Err.fault)) c.program.ensures.program c.in-Err.ensures.answer)
-    (subst (λ (p : Program). RefusesData p c.in-Err.fault (g.E.Sink.state c.args.err.now) (g.E.Sink.state c.refuse_data.new.err) c.refuse_data.result) c.program-in-Err.ensures.program c.refuse_data.ensures.told)
+pub returns-clause-answer : goal.returns-clause-answer
+returns-clause-answer g c =
+    let old = g.F.Shelf.state c.args.shelf.now in
+    let new = g.F.Shelf.state c.load_program.new.shelf in
+    let out = g.O.Sink.state c.args.out.now in
+    let out' = g.O.Sink.state c.run_main-ended.new.out in
+    subst (λ e. Answer (Some (request_for Elide c.args.name.now)) old new out out' (g.E.Sink.state e) (g.E.Sink.state c.tell_end.new.err) c.tell_end.result) c.in-Ok.ensures.untold
+    (end_answers c.args.name.now c.in-Ok.program.code c.tree.result.now c.in-Ok.program.columns old new c.in-Ok.ensures.loaded c.tree.ensures.meaning c.run_main-ended.result out out'
+    (g.E.Sink.state c.load_program.new.err) (g.E.Sink.state c.tell_end.new.err) c.tell_end.result c.run_main-ended.ensures.all c.run_main-ended.ensures.end c.run_main-ended.ensures.front
+    c.run_main-ended.ensures.cause c.run_main-ended.ensures.kept c.tell_end.ensures)
