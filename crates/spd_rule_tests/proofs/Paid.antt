@@ -16,7 +16,7 @@ use Rattle.spd_book.specs.Offers.{MayGive, MayOffer, MayFault}
 use Rattle.spd_book.specs.Collects.{MayCollect}
 use Rattle.spd_rule.specs.Rest.{rested, due}
 use Rattle.spd_rule_tests.specs.declared.notes.Notes.{Notes}
-use Rattle.spd_rule_tests.specs.Notes.{Pays, IsGiver, RunsEnd, IsCollector, collected_notes, looked_notes, lowered_notes}
+use Rattle.spd_rule_tests.specs.Notes.{Pays, PaysAtOnce, RunsEnd, IsToCollect, collected_notes, looked_notes, lowered_notes}
 use Rattle.spd_rule_tests.specs.Ties.{Ties}
 
 -- the notes read these entries of a view alone
@@ -240,10 +240,10 @@ module _ {B : Type 0} (me : Me (Option B) View) (n : Notes) (h : Ties me n) wher
   pub wild_not : (r : Running) → Pays r n → me.0.wild ≡ 0 → ⊥
   wild_not r w z = let x = h.wild in let y = w.wild in absurd (omega arith)
 
-  gives : (r : Running) → IsGiver r n → MayGive me.0 r
+  gives : (r : Running) → PaysAtOnce r n → MayGive me.0 r
   gives r g = record { running = h.running ∙ g.pays.running; right = g.pays.right; flight = h.flight ∙ g.flight }
 
-  pub may_offer : (r : Running) → IsGiver r n → (kind : FinishKind) (x : ℤ) (left : Meaning) → MayOffer me.0 kind x left
+  pub may_offer : (r : Running) → PaysAtOnce r n → (kind : FinishKind) (x : ℤ) (left : Meaning) → MayOffer me.0 kind x left
   may_offer r g kind x left = record {
     runs = r;
     gives = gives r g;
@@ -251,10 +251,10 @@ module _ {B : Type 0} (me : Me (Option B) View) (n : Notes) (h : Ties me n) wher
     takes = λ z. absurd (wild_not r g.pays z);
   }
 
-  pub may_fault : (r : Running) → IsGiver r n → (code : ℕ) (left : Meaning) → MayFault me.0 code left
+  pub may_fault : (r : Running) → PaysAtOnce r n → (code : ℕ) (left : Meaning) → MayFault me.0 code left
   may_fault r g code left = record { runs = r; gives = gives r g; takes = λ _ z. absurd (wild_not r g.pays z) }
 
-  pub may_collect : (r : Running) (d : ℕ) (kind : FinishKind) → IsCollector r d kind n → MayCollect me.0 d kind
+  pub may_collect : (r : Running) (d : ℕ) (kind : FinishKind) → IsToCollect r d kind n → MayCollect me.0 d kind
   may_collect r d kind c = record {
     runs = r;
     running = h.running ∙ c.running;
@@ -297,7 +297,7 @@ module _ {B : Type 0} (me : Me (Option B) View) (n : Notes) (h : Ties me n) wher
   }
 
 -- the gift word was seen, and then the fault word
-pub ties_collected : {B : Type 0} (me : Me (Option B) View) (n : Notes) → Ties me n → (r : Running) (d k word : ℕ) (kind : FinishKind) → IsCollector r d kind n
+pub ties_collected : {B : Type 0} (me : Me (Option B) View) (n : Notes) → Ties me n → (r : Running) (d k word : ℕ) (kind : FinishKind) → IsToCollect r d kind n
     → Ties (collected_view me.0.awaited k (shown_view word me.0), me.1) (looked_notes d k n)
 ties_collected me n h r d k word kind c = subst (λ (b : Bool). Ties (
   cond b (collected_view me.0.awaited k (shown_view word me.0))

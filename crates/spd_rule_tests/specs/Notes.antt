@@ -43,7 +43,7 @@ pub record Works (r : Running) (n : Notes) : Type 0 where
   pub unhurt : n.hurt ≡ 0
 
 -- And it has no move in flight.
-pub record IsGiver (r : Running) (n : Notes) : Type 0 where
+pub record PaysAtOnce (r : Running) (n : Notes) : Type 0 where
   pub pays : Pays r n
   pub flight : n.flight ≡ None
 
@@ -140,7 +140,7 @@ pub record RunsEnd (r : Running) (n : Notes) : Type 0 where
   pub flight : n.flight ≡ None
 
 -- It runs the waiting vertex of the finish d, is to collect it, and the finish is of this kind; 0 is that of the region.
-pub record IsCollector (r : Running) (d : ℕ) (kind : FinishKind) (n : Notes) : Type 0 where
+pub record IsToCollect (r : Running) (d : ℕ) (kind : FinishKind) (n : Notes) : Type 0 where
   pub running : n.running ≡ Some r
   pub rest : r.vertex ≡ 2 * d + 1
   pub inner : d ≢ 0

@@ -2,8 +2,8 @@
 
 ghost use Rattle.std.specs.Prelude.{◌≡◌, ◌<◌, ◌^◌, IfSome};
 ghost use Rattle.std.specs.Bool.{OnTrue};
-ghost use Rattle.spd_rule_tests.specs.Notes.{new_notes, IsAtLeisure, KnowsInc, Wakes, FliesAs, Signals, IsIdle, HasHandles, Makes, Draws, OpensAt, SpawnsAt, Pays, Works, IsGiver, RunsEnd};
-ghost use Rattle.spd_rule_tests.specs.Notes.{IsCollector, looked_notes, lowered_notes};
+ghost use Rattle.spd_rule_tests.specs.Notes.{new_notes, IsAtLeisure, KnowsInc, Wakes, FliesAs, Signals, IsIdle, HasHandles, Makes, Draws, OpensAt, SpawnsAt, Pays, Works, PaysAtOnce, RunsEnd};
+ghost use Rattle.spd_rule_tests.specs.Notes.{IsToCollect, looked_notes, lowered_notes};
 
 use spd_state::{Draw, Flight, Running};
 use spd_words::FinishKind;
@@ -82,7 +82,7 @@ impl Notes {
 
     /// The vertex that it runs with its right, where it has no move in flight.
     pub fn giving(&self) -> Option<Running>
-        ensures { IfSome result (λ r. IsGiver r self.now) }
+        ensures { IfSome result (λ r. PaysAtOnce r self.now) }
     {
         let running = self.paying()?;
         if self.flight.is_none() {
@@ -94,7 +94,7 @@ impl Notes {
     /// The waiting vertex of the finish d of this kind, where it is yet to collect that.
     pub fn collecting(&self, d: u32, kind: FinishKind) -> Option<Running>
         requires { d < 2 ^ 30 }
-        ensures { IfSome result (λ r. IsCollector r d kind self.now) }
+        ensures { IfSome result (λ r. IsToCollect r d kind self.now) }
     {
         match self.running {
             Some(running)
