@@ -4,6 +4,8 @@
 #[cfg(test)]
 mod arguments;
 #[cfg(test)]
+mod by_all_ways;
+#[cfg(test)]
 mod checks;
 #[cfg(test)]
 mod column_rows;
@@ -12,11 +14,15 @@ mod commands;
 #[cfg(test)]
 mod data_commands;
 #[cfg(test)]
+mod ends;
+#[cfg(test)]
 mod events;
 #[cfg(test)]
 mod families;
 #[cfg(test)]
 mod finish_rows;
+#[cfg(test)]
+mod job_rows;
 #[cfg(test)]
 mod jobs;
 #[cfg(test)]
