@@ -1,0 +1,5 @@
+-- The clauses `fits` of turns.rt, and the invariant `fits` of a worker: what its stage says of its share's view.
+-- FitsStage (specs/Workers) from IsOver and unmoved_view (spd_dag), in Turning; the conditions of calls in Beginning.
+-- The one idea: a call's beginning is kept, and what a share knows at its end is a function of the beginning.
+pub mod Turning
+pub mod Beginning
