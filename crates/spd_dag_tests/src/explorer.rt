@@ -27,10 +27,7 @@ fn crew_of(rt: &impl Abort, alloc: Global, case: Case) -> Crew
 {
     let plan = Plan::new(Scheme::Flat, case.moves, 0).expect(rt, "moves");
     let (field, share) = Field::new(alloc, plan).expect(rt, "memory");
-    let piece = Piece {
-        low: 0,
-        high: case.size,
-    };
+    let piece = Piece::new(0, case.size);
     let watcher = Worker::first(&field, share, piece).expect(rt, "a piece");
     let mut crew = Crew {
         field,
@@ -110,10 +107,7 @@ fn play(
     deeds: &mut Vec<(usize, Deed)>,
 ) {
     let mut crew = crew_of(rt, alloc, case);
-    let piece = Piece {
-        low: 0,
-        high: case.size,
-    };
+    let piece = Piece::new(0, case.size);
     let mut model = Model::new(alloc, case.forks, case.moves, piece, case.seats).expect(
         rt, "memory",
     );

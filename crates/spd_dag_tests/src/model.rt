@@ -1,7 +1,7 @@
 // A region as a plain list of vertices and of counts: what each deed must answer, and what it changes.
 
 use crate::deeds::Forks;
-use spd_fork::Piece;
+use spd_fork::{Piece, PieceStage};
 use std::alloc::{AllocError, Global};
 
 /// A vertex: its state, as its word has it, its finish and its piece, and how often it was started.
@@ -65,7 +65,11 @@ pub struct Model {
     pub(crate) seats: Vec<Seat>,
 }
 
-const NOTHING: Piece = Piece { low: 0, high: 0 };
+const NOTHING: Piece = Piece {
+    low: 0,
+    high: 0,
+    stage: PieceStage::Going,
+};
 
 impl Model {
     /// A region whose make is done: vertex 0 is ready, with this piece, and vertex 1 waits. No worker runs anything.

@@ -2,20 +2,42 @@
 
 ghost use Rattle.spd_fork.specs.Places.{IsAt};
 
-use spd_fork::{Began, Piece, Turned, Worker};
+use spd_fork::{Began, Piece, PieceStage, Turned, Worker};
 use spd_rule::Field;
 use spd_words::{Plan, Scheme};
 use std::alloc::Global;
 use std::process::Abort;
 use std::test::Fail;
 
-const WHOLE: Piece = Piece { low: 0, high: 4 };
+const WHOLE: Piece = Piece {
+    low: 0,
+    high: 4,
+    stage: PieceStage::Going,
+};
 
-const BODY: Piece = Piece { low: 0, high: 2 };
+const BODY: Piece = Piece {
+    low: 0,
+    high: 2,
+    stage: PieceStage::Going,
+};
 
-const REST: Piece = Piece { low: 2, high: 4 };
+const REST: Piece = Piece {
+    low: 2,
+    high: 4,
+    stage: PieceStage::Going,
+};
 
-const EMPTY: Piece = Piece { low: 1, high: 1 };
+const EMPTY: Piece = Piece {
+    low: 1,
+    high: 1,
+    stage: PieceStage::Going,
+};
+
+const WAITS: Piece = Piece {
+    low: 2,
+    high: 4,
+    stage: PieceStage::Waits,
+};
 
 /// A new field of so many moves, whose make has this piece, and the worker that made it.
 fn made(rt: &impl Abort, alloc: Global, moves: u32, piece: Piece) -> (Field<Piece>, Worker)
@@ -190,6 +212,7 @@ fn what_a_worker_that_works_may_not_do(rt: HostRuntime) {
     assert!(rt; worker.split(&field).is_none(), "it doesn't rest");
     refused(&rt, &field, &mut worker, EMPTY, REST);
     refused(&rt, &field, &mut worker, REST, EMPTY);
+    refused(&rt, &field, &mut worker, BODY, WAITS);
     assert!(rt; worker.close(field).is_some(), "it has all seats");
 }
 

@@ -111,10 +111,7 @@ fn count(starts: &mut Vec<u32>, log: &Log) {
 fn on_four<R: Abort + Wait + Threads + Sync>(rt: &R, alloc: Global) -> (Vec<u32>, u64) {
     let plan = Plan::new(Scheme::Flat, MOVES, 0).expect(rt, "moves");
     let (field, share) = Field::new(alloc, plan).expect(rt, "memory");
-    let whole = Piece {
-        low: 0,
-        high: MOVES,
-    };
+    let whole = Piece::new(0, MOVES);
     let mut a = Worker::first(&field, share, whole).expect(rt, "a piece");
     let b = a.split(&field).expect(rt, "a spare seat");
     let mut c = a.split(&field).expect(rt, "a spare seat");

@@ -5,6 +5,7 @@ use Rattle.atomic_table.specs.Table.{Me}
 use Rattle.spd_words.specs.Plan.{PlanView}
 use Rattle.spd_words.specs.Words.{Vertex, vertex_of}
 use Rattle.spd_words.specs.Meaning.{Going}
+use Rattle.spd_words.specs.BodyCalls.{IsReady}
 use Rattle.spd_words.specs.declared.finish_kind.FinishKind.TheVariants.{Plain}
 use Rattle.spd_state.specs.Dag.{busy, not_end}
 use Rattle.spd_state.specs.Tree.{top_in}
@@ -23,7 +24,7 @@ use Rattle.spd_dag.specs.Signals.{SignalBegins}
 use Rattle.spd_dag.specs.declared.chain.ChainCall.{ChainCall}
 use Rattle.spd_dag.specs.declared.spawn.SpawnCall.{SpawnCall}
 use Rattle.spd_dag.specs.declared.signal.SignalCall.{SignalCall}
-use Rattle.spd_fork.specs.Workers.{IsResting, IsWorking, FitsStage}
+use Rattle.spd_fork.specs.Workers.{IsResting, IsWorking, IsBegun, FitsStage}
 use Rattle.spd_fork.specs.declared.stage.Stage.{Stage}
 use Rattle.spd_fork.specs.declared.stage.Stage.TheVariants as stage
 use Rattle.spd_fork.specs.Pieces.{piece_view}
@@ -35,7 +36,7 @@ is_other zero other = refl
 is_other (suc zero) other = absurd (other refl)
 is_other (suc (suc i)) other = refl
 
--- a piece that has a number may lie in a slot
+-- a piece that goes on may lie in a slot
 pub fit_piece : (b : Piece) → (piece_view b).stage ≡ Going → IsFit (piece_view b)
 fit_piece b goes = record { goes = goes; tame = λ (wild : true ≡ false). absurd (cc) }
 
@@ -50,24 +51,24 @@ module _ (seats : ℕ) (r : Running) (v : View) (w : IsWorking seats r v) where
         let d = ap length w.has.above in omega arith;
   }
 
-  pub may_chain : (body rest : Piece) → (piece_view body).stage ≡ Going → (piece_view rest).stage ≡ Going
+  pub may_chain : (body rest : Piece) → IsReady Plain (piece_view body) → IsFit (piece_view rest)
       → MayChain v r Plain (piece_view body) (piece_view rest)
-  may_chain body rest goes more = record {
+  may_chain body rest ready fit = record {
     acts = may_act;
-    ready = record { kind = refl; awaited = refl; stage = goes };
-    carried = fit_piece body goes;
-    fit = fit_piece rest more;
+    ready = ready;
+    carried = fit_piece body ready.stage;
+    fit = fit;
     books = λ tame. let a = w.wild in absurd (omega arith);
   }
 
-  pub may_spawn : (body rest : Piece) → (piece_view body).stage ≡ Going → (piece_view rest).stage ≡ Going
+  pub may_spawn : (body rest : Piece) → IsReady Plain (piece_view body) → IsFit (piece_view rest)
       → MaySpawn v r (piece_view body) (piece_view rest)
-  may_spawn body rest goes more = record {
+  may_spawn body rest ready fit = record {
     cuts = record {
       acts = may_act;
-      ready = record { kind = sym w.kind; awaited = refl; stage = goes };
-      carried = fit_piece body goes;
-      fit = fit_piece rest more;
+      ready = record { kind = sym w.kind; awaited = ready.awaited; stage = ready.stage };
+      carried = fit_piece body ready.stage;
+      fit = fit;
       books = λ tame. let a = w.wild in absurd (omega arith);
     };
     knows = w.knows;
@@ -115,27 +116,31 @@ module _ (seats : ℕ) (v : View) (h : IsResting seats v) where
       by false = rests_stepped
 
   -- the vertex of a piece was started
-  pub works_started : (i : ℕ) (x : Vertex) (b : Piece) → i ≢ 1
-      → IsWorking seats (start_run i x) (start_view i x (Some (piece_view b).means) (note_ready i x v))
-  works_started i x b other = record {
-    has = record {
-      number = h.has.number;
-      flight = h.has.flight;
-      held = h.has.held;
-      claimed = h.has.claimed;
-      rooted = h.has.rooted;
-      above = h.has.above;
-      halves = h.has.halves;
-      sprout = h.has.sprout;
-      told = h.has.told;
-      hurt = h.has.hurt;
+  pub begun_started : (i : ℕ) (x : Vertex) (b : Piece) → i ≢ 1
+      → IsBegun seats i b (start_run i x) (start_view i x (Some (piece_view b).means) (note_ready i x v))
+  begun_started i x b other = record {
+    works = record {
+      has = record {
+        number = h.has.number;
+        flight = h.has.flight;
+        held = h.has.held;
+        claimed = h.has.claimed;
+        rooted = h.has.rooted;
+        above = h.has.above;
+        halves = h.has.halves;
+        sprout = h.has.sprout;
+        told = h.has.told;
+        hurt = h.has.hurt;
+      };
+      running = refl;
+      right = is_other i other;
+      awaited = refl;
+      wild = refl;
+      kind = refl;
+      knows = ap (λ (o : Bool). cond o (Some x.finish) (top_in x.inc v.known)) (eq-eqb x.inc x.inc refl);
     };
-    running = refl;
-    right = is_other i other;
-    awaited = refl;
-    wild = refl;
-    kind = refl;
-    knows = ap (λ (o : Bool). cond o (Some x.finish) (top_in x.inc v.known)) (eq-eqb x.inc x.inc refl);
+    number = refl;
+    waits = refl;
   }
 
 -- ---- at a stage
@@ -145,19 +150,19 @@ module _ (p : PlanView) (seats : ℕ) (me : Me (Option Piece) View) (s : Stage) 
     at_work : (r : Running) × IsWorking seats r me.0
     at_work = subst (FitsStage p seats me) works fits
 
-    pub begun_chain : (body rest : Piece) → (piece_view body).stage ≡ Going → (piece_view rest).stage ≡ Going → (call : ChainCall Piece)
+    pub begun_chain : (body rest : Piece) → IsReady Plain (piece_view body) → IsFit (piece_view rest) → (call : ChainCall Piece)
         → ChainBegins piece_view Plain body rest call → FitsStage p seats me (stage.Chains call)
-    begun_chain body rest goes more call begins = let r = at_work.0 in let w = at_work.1 in (
+    begun_chain body rest ready fit call begins = let r = at_work.0 in let w = at_work.1 in (
       record { known = me; runs = r; body = body; rest = rest },
-      begins p (record { known = me; runs = r; body = body; rest = rest }) refl refl (may_chain seats r me.0 w body rest goes more),
+      begins p (record { known = me; runs = r; body = body; rest = rest }) refl refl (may_chain seats r me.0 w body rest ready fit),
       w,
     )
 
-    pub begun_spawn : (body rest : Piece) → (piece_view body).stage ≡ Going → (piece_view rest).stage ≡ Going → (call : SpawnCall Piece)
+    pub begun_spawn : (body rest : Piece) → IsReady Plain (piece_view body) → IsFit (piece_view rest) → (call : SpawnCall Piece)
         → SpawnBegins piece_view body rest call → FitsStage p seats me (stage.Spawns call)
-    begun_spawn body rest goes more call begins = let r = at_work.0 in let w = at_work.1 in (
+    begun_spawn body rest ready fit call begins = let r = at_work.0 in let w = at_work.1 in (
       record { known = me; runs = r; body = body; rest = rest },
-      begins p (record { known = me; runs = r; body = body; rest = rest }) refl refl (may_spawn seats r me.0 w body rest goes more),
+      begins p (record { known = me; runs = r; body = body; rest = rest }) refl refl (may_spawn seats r me.0 w body rest ready fit),
       w,
     )
 
@@ -176,9 +181,10 @@ module _ (p : PlanView) (seats : ℕ) (me : Me (Option Piece) View) (s : Stage) 
 
     -- what a start leaves
     module _ (i : ℕ) (me' : Me (Option Piece) View) where
-      pub fits_started : (b : Piece) → StartsBy (λ b. (piece_view b).means) p i me me' (Ours b) → FitsStage p seats me' stage.Works
-      fits_started b t = let x : Vertex = vertex_of t.1.found in (
+      pub begins_started : (b : Piece) → StartsBy (λ b. (piece_view b).means) p i me me' (Ours b)
+          → (r : Running) × IsBegun seats i b r me'.0
+      begins_started b t = let x : Vertex = vertex_of t.1.found in (
         start_run i x,
-        subst (λ (m : Me (Option Piece) View). IsWorking seats (start_run i x) m.0) (sym t.1.known)
-            (works_started seats me.0 at_rest_here i x b t.0),
+        subst (λ (m : Me (Option Piece) View). IsBegun seats i b (start_run i x) m.0) (sym t.1.known)
+            (begun_started seats me.0 at_rest_here i x b t.0),
       )

@@ -1,27 +1,33 @@
 // What a worker does: it starts a vertex, and then chains, spawns or signals, turn by turn.
 
-ghost use Rattle.std.specs.Prelude.{◌≡◌, [], IfSome, true};
+ghost use Rattle.std.specs.Prelude.{◌≡◌, ◌<◌, ◌*◌, [], IfSome, true};
 ghost use Rattle.spd_state.specs.Seats.{first_view};
-ghost use Rattle.spd_rule.specs.Shares.{IsOf, share_known};
+ghost use Rattle.spd_rule.specs.Kept.{IsFit};
+ghost use Rattle.spd_rule.specs.Shares.{IsOf, IsSame, field_plan, share_known, share_view};
 ghost use Rattle.spd_fork.specs.declared.stage.Stage.TheVariants as stage;
+ghost use Rattle.spd_fork.specs.Pieces.{piece_view};
 ghost use Rattle.spd_fork.specs.Places.{IsAt, StaysAt};
+ghost use Rattle.spd_fork.specs.Workers.{PieceGoesOn};
 
 use crate::piece::Piece;
 use crate::stage::Stage;
 use crate::turns::{Turned, turn_chain, turn_signal, turn_spawn};
 use crate::worker::Worker;
 use spd_dag::{ChainCall, SignalCall, SpawnCall, make};
-use spd_rule::{Field, Share, see_vertex};
+use spd_rule::{Field, Share, see_fault, see_vertex};
 use spd_vertex::start;
 use spd_vertex::starting::Start;
-use spd_words::{FinishKind, VertexWord};
+use spd_words::{Body, FinishKind, VertexWord};
 use std::mem;
 
 /// How the start of a vertex ends.
 #[derive(Clone, Copy, Debug, PartialEq, Eq)]
 pub enum Began {
-    /// The worker runs the vertex, in whose slot this piece lay.
+    /// The worker runs the vertex, in whose slot this piece lay. Where it waited, it is resumed.
     Piece(Piece),
+    /// The worker runs the vertex, whose piece waited for a finish that gave want of memory, which no
+    /// worker puts. It can't go on.
+    Lost,
     /// The worker runs vertex 1: the region is over.
     End,
     /// The vertex was in this state, which isn't 2.
@@ -30,13 +36,13 @@ pub enum Began {
 
 impl Worker {
     /// The worker of a new field's share, which makes a region of this piece: vertex 0 is ready. `None` where the
-    /// piece is empty.
+    /// piece isn't ready.
     pub fn first(field: &Field<Piece>, share: Share<Piece>, piece: Piece) -> Option<Worker>
         requires of { IsOf field.now share }
         requires new { share_known share ≡ (first_view, []) }
         ensures { IfSome result (λ w. IsAt field.now w) }
     {
-        if piece.is_empty() {
+        if !piece.is_ready() {
             return None;
         }
         let mut share = share;
@@ -74,7 +80,8 @@ impl Worker {
         self.share.running()
     }
 
-    /// Starts the vertex. `None` where there is no such one, or the worker doesn't rest.
+    /// Starts the vertex, and collects what its piece waits for. `None` where there is no such one, or the
+    /// worker doesn't rest.
     pub fn start(&mut self, field: &Field<Piece>, vertex: u32) -> Option<Began>
         requires { IsAt field.now self.old }
         ensures { IsAt field.now self.new }
@@ -83,10 +90,16 @@ impl Worker {
             return None;
         }
         match start(field, &mut self.share, vertex) {
-            Start::Ours(piece) => {
-                self.stage = Stage::Works;
-                Some(Began::Piece(piece))
-            }
+            Start::Ours(piece) => match resumed(field, &mut self.share, vertex, piece) {
+                Some(piece) => {
+                    self.stage = Stage::Works;
+                    Some(Began::Piece(piece))
+                }
+                None => {
+                    self.stage = Stage::Lost;
+                    Some(Began::Lost)
+                }
+            },
             Start::End => {
                 self.stage = Stage::Ends;
                 Some(Began::End)
@@ -107,22 +120,23 @@ impl Worker {
         Some(VertexWord::state(see_vertex(field, &mut self.share, vertex)))
     }
 
-    /// Begins a chain by the vertex that it runs: `rest` waits for a finish that `body` begins. Neither may be empty.
+    /// Begins a chain by the vertex that it runs: `rest` waits for a finish that `body` begins. Both are to be ready.
     pub fn chain(&mut self, body: Piece, rest: Piece) -> bool
         ensures { StaysAt self.old self.new }
     {
-        if !self.works() || body.is_empty() || rest.is_empty() {
+        if !self.works() || !body.is_ready() || !rest.is_ready() {
             return false;
         }
+        let rest = rest.waiting();
         self.stage = Stage::Chains(ChainCall::new(FinishKind::Plain, body, rest));
         true
     }
 
-    /// Begins a spawn by the vertex that it runs: `body` may run beside `rest`. Neither may be empty.
+    /// Begins a spawn by the vertex that it runs: `body` may run beside `rest`. Both are to be ready.
     pub fn spawn(&mut self, body: Piece, rest: Piece) -> bool
         ensures { StaysAt self.old self.new }
     {
-        if !self.works() || body.is_empty() || rest.is_empty() {
+        if !self.works() || !body.is_ready() || !rest.is_ready() {
             return false;
         }
         self.stage = Stage::Spawns(SpawnCall::new(body, rest));
@@ -168,4 +182,30 @@ impl Worker {
             }
         }
     }
+}
+
+/// The piece of a vertex that was just started. Where it waited, it is resumed with what its finish has
+/// collected: a plain one gives nothing, but may have the code of a fault. `None` where that is 0; the
+/// vertices for which a finish is collected are odd.
+fn resumed(
+    field: &Field<Piece>,
+    share: &mut Share<Piece>,
+    vertex: u32,
+    mut piece: Piece,
+) -> Option<Piece>
+    requires of { IsOf field.now share.old }
+    requires inside { vertex < 2 * (field_plan field.now).moves }
+    requires fit { IsFit (piece_view piece) }
+    ensures same { IsSame share.old share.new }
+    ensures goes { PieceGoesOn vertex piece (share_view share.old) (share_view share.new) result }
+{
+    if piece.waits().is_none() {
+        return Some(piece);
+    }
+    let fault = see_fault(field, share, vertex / 2);
+    if fault == 0 || vertex % 2 == 0 {
+        return None;
+    }
+    piece.resume(0, fault);
+    Some(piece)
 }

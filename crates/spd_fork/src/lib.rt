@@ -11,7 +11,7 @@ mod turns;
 mod worker;
 
 pub use calls::Began;
-pub use piece::Piece;
+pub use piece::{Piece, PieceStage};
 pub use schedule::{Job, work};
 pub use turns::Turned;
 pub use worker::Worker;

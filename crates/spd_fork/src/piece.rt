@@ -3,24 +3,47 @@
 use spd_words::{Body, Event, FinishKind, Part};
 use std::alloc::{AllocError, Global};
 
+/// Where a piece stands.
+#[derive(Clone, Copy, Debug, PartialEq, Eq)]
+pub enum PieceStage {
+    Going,
+    /// Behind a chain, for a plain finish.
+    Waits,
+    /// It was resumed with want of memory.
+    Spent,
+}
+
 /// The numbers from `low` up to `high`: none where `high` isn't greater. As a body it is wild: no books are
 /// kept of what it gives, and the scheduler hands results on by itself.
 #[derive(Clone, Copy, Debug, PartialEq, Eq)]
 pub struct Piece {
     pub low: u32,
     pub high: u32,
+    pub stage: PieceStage,
 }
 
 impl Piece {
-    ghost use Rattle.std.specs.Prelude.{◌≡◌, false};
+    ghost use Rattle.std.specs.Prelude.{◌≡◌, true};
     ghost use Rattle.spd_words.specs.Meaning.{Going};
+    ghost use Rattle.spd_words.specs.BodyCalls.{IsReady};
+    ghost use Rattle.spd_words.specs.declared.finish_kind.FinishKind.TheVariants.{Plain};
+    ghost use Rattle.spd_rule.specs.Kept.{IsFit};
     ghost use Rattle.spd_fork.specs.Pieces.{piece_view};
 
-    /// Whether it has no number.
-    pub fn is_empty(&self) -> bool
-        ensures { result ≡ false → (piece_view self.now).stage ≡ Going }
+    /// The numbers from `low` up to `high`, to be worked on.
+    pub fn new(low: u32, high: u32) -> Piece {
+        Piece {
+            low,
+            high,
+            stage: PieceStage::Going,
+        }
+    }
+
+    /// Whether it has a number, and may be started: it neither waits nor is spent.
+    pub fn is_ready(&self) -> bool
+        ensures { result ≡ true → IsReady Plain (piece_view self.now) }
     {
-        self.low >= self.high
+        self.low < self.high && matches!(self.stage, PieceStage::Going)
     }
 
     /// How many numbers it has.
@@ -30,9 +53,19 @@ impl Piece {
 
     /// Its two halves, of which the second is greater by one at most.
     pub fn halves(&self) -> (Piece, Piece) {
-        let Piece { low, high } = *self;
+        let Piece { low, high, .. } = *self;
         let middle = low.saturating_add(self.size() / 2);
-        (Piece { low, high: middle }, Piece { low: middle, high })
+        (Piece::new(low, middle), Piece::new(middle, high))
+    }
+
+    /// The same numbers, once a finish has ended.
+    pub(crate) fn waiting(self) -> Piece
+        ensures { IsReady Plain (piece_view self) → IsFit (piece_view result) }
+    {
+        Piece {
+            stage: PieceStage::Waits,
+            ..self
+        }
     }
 }
 
@@ -53,12 +86,20 @@ impl Body for Piece {
     }
 
     fn waits(&self) -> Option<FinishKind> {
-        None
+        match self.stage {
+            PieceStage::Waits => Some(FinishKind::Plain),
+            _ => None,
+        }
     }
 
     fn advance(&mut self, _alloc: Global) -> Event<Piece> {
+        let stage = self.stage;
         self.low = self.high;
-        Event::Over
+        self.stage = PieceStage::Going;
+        match stage {
+            PieceStage::Spent => Event::NoMemory,
+            _ => Event::Over,
+        }
     }
 
     fn inside(&mut self, _alloc: Global, part: Part<Piece>) -> Result<(), AllocError>
@@ -67,10 +108,15 @@ impl Body for Piece {
         ensures memory { OnErr result ((piece_view self.new).stage ≡ Ended) }
     {
         drop(part);
+        self.stage = PieceStage::Going;
         Ok(())
     }
 
-    fn resume(&mut self, _gift: i64, _fault: u64) {
-        unreachable!()
+    fn resume(&mut self, _gift: i64, fault: u64) {
+        self.stage = if fault == 0 {
+            PieceStage::Spent
+        } else {
+            PieceStage::Going
+        };
     }
 }

@@ -56,7 +56,7 @@ pub fn work<R: Wait, J: Job>(
                 begin(&mut worker, piece, cuts, job);
                 turn_to_end(field, &mut worker, job, &mut ready);
             }
-            Some(Began::End) => return worker,
+            Some(Began::End | Began::Lost) => return worker,
             Some(Began::Taken { state }) => {
                 if vertex == 1 && state == 3 {
                     return worker;

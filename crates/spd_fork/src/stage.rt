@@ -15,4 +15,6 @@ pub(crate) enum Stage {
     Signals(SignalCall),
     /// It runs vertex 1: the region is over.
     Ends,
+    /// It runs a vertex whose piece waited for a finish that gave want of memory.
+    Lost,
 }

@@ -54,7 +54,11 @@ pub(crate) fn turn_chain(
     match call.turn(field, share) {
         ChainTurn::More => (Stage::Chains(call), Turned::More),
         ChainTurn::Done { body, rest } => (Stage::Rests, Turned::Chained { body, rest }),
-        ChainTurn::Full { drawn, body, rest } => (Stage::Works, Turned::Full { drawn, body, rest }),
+        ChainTurn::Full { drawn, body, rest } => {
+            let Piece { low, high, .. } = rest;
+            let rest = Piece::new(low, high);
+            (Stage::Works, Turned::Full { drawn, body, rest })
+        }
     }
 }
 

@@ -107,10 +107,7 @@ fn work_sum<R: Wait>(rt: &R, alloc: Global, field: &Field<Piece>, worker: Worker
 }
 
 fn main(rt: HostRuntime) -> io::Result<()> {
-    let piece = Piece {
-        low: 1,
-        high: 1_000_001,
-    };
+    let piece = Piece::new(1, 1_000_001);
     match sum_of(&rt, rt.alloc(), piece) {
         Ok((sum, cuts, moves)) => {
             println!(rt; "The sum of 1 to 1000000 is {sum}.")?;
