@@ -1,0 +1,3 @@
+-- The clauses of crew.rt: each worker of a crew stands at its field (specs/Crews), by std's lemmas on All.
+-- The model and the deeds have no clause: they are safe, and the tests compare them with the workers.
+-- The one idea: a deed changes one worker alone, which stays where it stands.
