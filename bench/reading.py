@@ -4,9 +4,10 @@
 Usage: bench/reading.py [PROGRAM], from the top of the repository, where PROGRAM is the built program
 (crates/spd/out/spd if left out).
 
-Each text ends with a function, which no program may have yet, so that it is read and refused, and
-nothing of it runs. Beside it stands what CPython's `compile` takes for a text of the same kind and
-about the same length, its start-up not counted.
+Each text ends with a function that doesn't return, which is the last thing that the checks find, so
+that it is read to its end, checked and refused, and nothing of it runs. Beside it stands what
+CPython's `compile` takes for a text of the same kind and about the same length, its start-up not
+counted.
 
 What it prints is a measurement of one run, and no promise.
 """
@@ -19,15 +20,33 @@ from measuring import peak_kib, program_path, seconds, smallest_stack_kib, text_
 
 REFUSED = 1
 SIZES = (("0.25", 1 << 18), ("0.5", 1 << 19), ("1", 1 << 20))
-END = b"}\nfn last() { return 0; }\n"
+END = b"}\nfn last() { }\n"
 SUM = b"1" + b" + 2" * 200
 
 # What a line of each kind is, in spd and in Python; and what stands before the lines in spd.
 KINDS = {
     "prints": (b'print "row ", 1 + 2 + 3;\n', b'print("row ", 1 + 2 + 3)\n', b"main {\n"),
     "sums": (b"print " + SUM + b";\n", b"print(" + SUM + b")\n", b"main {\n"),
-    "asyncs": (b"async{offer 1;}\n", b"def f(): offer(1)\n", b"main {\nlet s = finish sum {\n"),
+    "asyncs": (b"async{offer 1;}\n", b"with a(): offer(1)\n", b"main {\nlet s = finish sum {\n"),
     "finishes": (b"finish{async{}}\n", b"with a():\n with b(): pass\n", b"main {\n"),
+}
+
+# Texts that are read, checked or let go by functions that call themselves, as deep as the limits allow.
+CHAIN = b"1" + b" + 1" * 1000
+LEVELS = b"1 || 1 && 1 < 1 + 1 * "
+DEEP = {
+    "one brace": b"main {" + END,
+    "32 braces": b"main {" + b"finish {" * 31 + b"}" * 31 + END,
+    "31 parentheses": b"main { print " + b"(" * 31 + b"1" + b")" * 31 + b"; " + END,
+    "31 `-at`, each behind an operator of each level": b'lines c from ""; main { print '
+    + (LEVELS + b"-at(c, 1, ") * 31
+    + b"1"
+    + b")" * 31
+    + b"; "
+    + END,
+    "1,000 `+`": b"main { print " + CHAIN + b"; " + END,
+    "31 parentheses round 1,000 `+`": b"main { print " + b"(" * 31 + CHAIN + b")" * 31 + b"; " + END,
+    "32 braces round 1,000 `+`": b"main {" + b"if 1 {" * 31 + b"let x = " + CHAIN + b"; " + b"}" * 31 + END,
 }
 
 
@@ -78,10 +97,7 @@ def main():
         empty_kib = peak_kib(empty, REFUSED)
         for kind in KINDS:
             measure_kind(spd, kind, start, empty_kib)
-        nest = b"main { print " + b"(" * 31 + b"1" + b")" * 31 + b"; " + END
-        chain = b"main { print 1" + b" + 1" * 1000 + b"; " + END
-        blocks = b"main {" + b"finish {" * 31 + b"}" * 31 + END
-        for what, text in (("one brace", b"main {" + END), ("32 braces", blocks), ("31 parentheses", nest), ("1,000 `+`", chain)):
+        for what, text in DEEP.items():
             kib = smallest_stack_kib(reading(spd, "stack.sp", text), REFUSED)
             print(f"smallest stack for {what}: {kib} KiB")
 
