@@ -253,7 +253,7 @@ const TWO_FAULTS: [(&[u8], &[u8], u32, &[u8], ParseKind, u32); 7] = [
 ];
 
 /// The first fault of a text, if it is no program.
-fn fault_of(alloc: Global, text: &[u8]) -> Result<Option<ParseFault>, Fail> {
+pub(crate) fn fault_of(alloc: Global, text: &[u8]) -> Result<Option<ParseFault>, Fail> {
     let tokens = lex(alloc, text)?;
     Ok(parse(alloc, text, tokens.as_slice()).err())
 }

@@ -2,10 +2,26 @@
 #![tactic(auto)]
 
 #[cfg(test)]
+mod bytes;
+#[cfg(test)]
+mod expected;
+#[cfg(test)]
 mod faults;
+#[cfg(test)]
+mod levels;
+#[cfg(test)]
+mod limits;
+#[cfg(test)]
+mod literals;
+#[cfg(test)]
+mod operands;
+#[cfg(test)]
+mod pieces;
 #[cfg(test)]
 mod printing;
 #[cfg(test)]
 mod tokens;
 #[cfg(test)]
 mod trees;
+#[cfg(test)]
+mod words;

@@ -7,7 +7,7 @@ use std::alloc::Global;
 use std::test::Fail;
 
 /// Texts, each with its canonical text.
-const ROWS: [(&[u8], &[u8]); 31] = [
+const ROWS: [(&[u8], &[u8]); 55] = [
     (b"", b""),
     (b"main{}", b"main {\n}\n"),
     (b"main{print 1+(2*3);}", b"main {\n  print 1 + 2 * 3;\n}\n"),
@@ -130,6 +130,108 @@ const ROWS: [(&[u8], &[u8]); 31] = [
     (
         b"main{let s=finish sum{run add(0,len(price));}print \"sum \",s;}",
         b"main {\n  let s = finish sum {\n    run add(0, len(price));\n  }\n  print \"sum \", s;\n}\n",
+    ),
+    // signs, with and without spaces
+    (
+        b"main{print - 1,-(1),- a-1,!(c[0]),-(len(c));}",
+        b"main {\n  print -1, -1, -a - 1, !c[0], -len(c);\n}\n",
+    ),
+    (
+        b"main{print-1- -1-(-1),!(!a),!(-a),-(!a);}",
+        b"main {\n  print -1 - -1 - -1, !(!a), !(-a), -(!a);\n}\n",
+    ),
+    (
+        b"main{print -(a*b),-a*b,(-a)*b,-(a)-(b);}",
+        b"main {\n  print -(a * b), -a * b, -a * b, -a - b;\n}\n",
+    ),
+    // parentheses that are needed, and the others
+    (
+        b"main{print ((((a))))+(((b)));}",
+        b"main {\n  print a + b;\n}\n",
+    ),
+    (
+        b"main{print a-(b+c),a-(b*c),(a-b)*c,a*(b-c);}",
+        b"main {\n  print a - (b + c), a - b * c, (a - b) * c, a * (b - c);\n}\n",
+    ),
+    (
+        b"main{print a/(b*c),(a/b)*c,a%(b%c),(a%b)%c;}",
+        b"main {\n  print a / (b * c), a / b * c, a % (b % c), a % b % c;\n}\n",
+    ),
+    (
+        b"main{print (a<b)<c,a<(b<c),(a==b)!=(c==d);}",
+        b"main {\n  print (a < b) < c, a < (b < c), (a == b) != (c == d);\n}\n",
+    ),
+    (
+        b"main{print (a+b)<(c*d),a+(b<c),(a<b)+c,!(a<b);}",
+        b"main {\n  print a + b < c * d, a + (b < c), (a < b) + c, !(a < b);\n}\n",
+    ),
+    (
+        b"main{print a||(b&&(c==(d+(e*(-f)))));}",
+        b"main {\n  print a || b && c == d + e * -f;\n}\n",
+    ),
+    (
+        b"main{print ((((a*b)+c)==d)&&e)||f;}",
+        b"main {\n  print a * b + c == d && e || f;\n}\n",
+    ),
+    (
+        b"main{print a*(b+(c==(d&&(e||f))));}",
+        b"main {\n  print a * (b + (c == (d && (e || f))));\n}\n",
+    ),
+    // brackets of columns and calls hold any expression bare
+    (
+        b"main{print c[(a||b)],c[c[c[0]]],at(c,(a<b),(a-b)),size(c,len(c)-1);}",
+        b"main {\n  print c[a || b], c[c[c[0]]], at(c, a < b, a - b), size(c, len(c) - 1);\n}\n",
+    ),
+    (
+        b"main{print same(c,(1),\"\\\"\"),begins(c,(-1),\"\\\\\"),(begins(c,0,\"\"))+1;}",
+        b"main {\n  print same(c, 1, \"\\\"\"), begins(c, -1, \"\\\\\"), begins(c, 0, \"\") + 1;\n}\n",
+    ),
+    (
+        b"main{let x=f((a),(b||c),-(d));run t((1-2)-3,4-(5-6));}",
+        b"main {\n  let x = f(a, b || c, -d);\n  run t(1 - 2 - 3, 4 - (5 - 6));\n}\n",
+    ),
+    // strings beside values
+    (
+        b"main{print\"\";print\"a\",\"b\";print\"a\",(1),\"\\\\\\\\\",\"{;}\";}",
+        b"main {\n  print \"\";\n  print \"a\", \"b\";\n  print \"a\", 1, \"\\\\\\\\\", \"{;}\";\n}\n",
+    ),
+    // blocks in blocks
+    (
+        b"main{if a{if b{if c{}}}}",
+        b"main {\n  if a {\n    if b {\n      if c {\n      }\n    }\n  }\n}\n",
+    ),
+    (
+        b"main{if a{}else{if b{}else{x=1;}}y=2;}",
+        b"main {\n  if a {\n  } else {\n    if b {\n    } else {\n      x = 1;\n    }\n  }\n  y = 2;\n}\n",
+    ),
+    (
+        b"main{finish{async{}async{finish{}}}let g=finish greatest{for i in 0..9{offer i;}}}",
+        b"main {\n  finish {\n    async {\n    }\n    async {\n      finish {\n      }\n    }\n  }\n  let g = finish greatest {\n    for i in 0..9 {\n      offer i;\n    }\n  }\n}\n",
+    ),
+    (
+        b"main{for i in(a)..(b){}for j in a||b..c&&d{}for k in-1..!0{}}",
+        b"main {\n  for i in a..b {\n  }\n  for j in a || b..c && d {\n  }\n  for k in -1..!0 {\n  }\n}\n",
+    ),
+    // items, one behind the other
+    (
+        b"main{}main{}fn f(){}task t(a){}column c:int from\"a\"field\"b\";lines l from\"c\";",
+        b"main {\n}\nmain {\n}\nfn f() {\n}\ntask t(a) {\n}\ncolumn c: int from \"a\" field \"b\";\nlines l from \"c\";\n",
+    ),
+    (
+        b"lines\nl\n\nfrom # a\n\"a b\"\t;column\r\nc:text from\"#\"field\"'\";",
+        b"lines l from \"a b\";\ncolumn c: text from \"#\" field \"'\";\n",
+    ),
+    (
+        b"fn\tf ( a , b\n, c ) { } # the end",
+        b"fn f(a, b, c) {\n}\n",
+    ),
+    (
+        b"task t(format,int1,main_){format=int1;_=main_;}",
+        b"task t(format, int1, main_) {\n  format = int1;\n  _ = main_;\n}\n",
+    ),
+    (
+        b"main{if(a)-b{return-1;}else{return(a);}offer(c[0]);}",
+        b"main {\n  if a - b {\n    return -1;\n  } else {\n    return a;\n  }\n  offer c[0];\n}\n",
     ),
 ];
 

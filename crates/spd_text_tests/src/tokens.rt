@@ -4,7 +4,7 @@ use spd_syntax::{LexFault, LexKind, Mark, TokenKind as Kind, Word, lex};
 use std::test::Fail;
 
 /// Texts, and their tokens with start, end and line.
-const TEXTS: [(&[u8], &[(Kind, u32, u32, u32)]); 15] = [
+const TEXTS: [(&[u8], &[(Kind, u32, u32, u32)]); 19] = [
     (b"", &[]),
     (b" \t\r\n\n", &[]),
     (
@@ -137,10 +137,51 @@ const TEXTS: [(&[u8], &[(Kind, u32, u32, u32)]); 15] = [
             (Kind::Name, 10, 11, 1),
         ],
     ),
+    (
+        b"0..len(c) 1..2",
+        &[
+            (Kind::Number, 0, 1, 1),
+            (Kind::Mark(Mark::DotDot), 1, 3, 1),
+            (Kind::Word(Word::Len), 3, 6, 1),
+            (Kind::Mark(Mark::LeftParen), 6, 7, 1),
+            (Kind::Name, 7, 8, 1),
+            (Kind::Mark(Mark::RightParen), 8, 9, 1),
+            (Kind::Number, 10, 11, 1),
+            (Kind::Mark(Mark::DotDot), 11, 13, 1),
+            (Kind::Number, 13, 14, 1),
+        ],
+    ),
+    (
+        b"a--1!==b",
+        &[
+            (Kind::Name, 0, 1, 1),
+            (Kind::Mark(Mark::Minus), 1, 2, 1),
+            (Kind::Mark(Mark::Minus), 2, 3, 1),
+            (Kind::Number, 3, 4, 1),
+            (Kind::Mark(Mark::NotEqual), 4, 6, 1),
+            (Kind::Mark(Mark::Assign), 6, 7, 1),
+            (Kind::Name, 7, 8, 1),
+        ],
+    ),
+    // a CR ends no line and no comment
+    (
+        b"a # b\r\nc\rd # e\rf\ng",
+        &[
+            (Kind::Name, 0, 1, 1),
+            (Kind::Name, 7, 8, 2),
+            (Kind::Name, 9, 10, 2),
+            (Kind::Name, 17, 18, 3),
+        ],
+    ),
+    // neither a quote in a comment nor a `#` in a string begins anything
+    (
+        b"# \"\n\"# \\\\\"1# \"",
+        &[(Kind::Lit, 4, 10, 2), (Kind::Number, 10, 11, 2)],
+    ),
 ];
 
 /// Texts, and their first fault with its line.
-const FAULTS: [(&[u8], LexKind, u32); 25] = [
+const FAULTS: [(&[u8], LexKind, u32); 41] = [
     (b"&", LexKind::BadByte, 1),
     (b"|", LexKind::BadByte, 1),
     (b".", LexKind::BadByte, 1),
@@ -166,6 +207,25 @@ const FAULTS: [(&[u8], LexKind, u32); 25] = [
     (b"x \"\\n\" @", LexKind::BadEscape, 1),
     (b"# one\n# two\n@", LexKind::BadByte, 3),
     (b"# \"\n\n \"# two", LexKind::OpenString, 3),
+    // of several faults the first in the text; an open string stands at the end of its line
+    (b"\"a\" @ \"b", LexKind::BadByte, 1),
+    (b"\"a\n@", LexKind::OpenString, 1),
+    (b"\"a\r\n@", LexKind::BadByte, 1),
+    (b"\"\\\r\n@", LexKind::BadEscape, 1),
+    (b"\"\\\"\x01", LexKind::BadByte, 1),
+    (b"\"\\\\\\\"\n\"", LexKind::OpenString, 1),
+    (b"x\n\"ab\n\n@", LexKind::OpenString, 2),
+    (b"x\n\"a\" \"b # c\n", LexKind::OpenString, 2),
+    (b"\n\n\"a\\nb\"\n@", LexKind::BadEscape, 3),
+    (b"# @ \"\\n\n\"# @ &\"\n&", LexKind::BadByte, 3),
+    // marks of two bytes, of which one is missing
+    (b"a\n&&& b", LexKind::BadByte, 2),
+    (b"a |||", LexKind::BadByte, 1),
+    (b"1\n. 2", LexKind::BadByte, 2),
+    (b"a.b", LexKind::BadByte, 1),
+    // bytes that are no ASCII
+    (b"\xef\xbb\xbfmain { }", LexKind::BadByte, 1),
+    (b"main { }\n\xc3\xa9", LexKind::BadByte, 2),
 ];
 
 #[test]

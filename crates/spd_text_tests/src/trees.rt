@@ -2,13 +2,18 @@
 
 use spd_canonical::print_program;
 use spd_list::Seq;
-use spd_syntax::{BinOp, Expr, Item, ItemKind, Items, PrintPart, Program, Stmt, StmtKind};
+use spd_syntax::{BinOp, Expr, Item, ItemKind, Items, PrintPart, Program, Stmt, StmtKind, UnOp};
 use sqlite_items::Boxed;
 use std::alloc::{AllocError, Global};
 use std::test::Fail;
 
+/// An operator before an operand.
+pub(crate) fn unary(alloc: Global, op: UnOp, x: Expr) -> Result<Expr, AllocError> {
+    Ok(Expr::Unary(op, Boxed::new(alloc, x)?))
+}
+
 /// An operator between two operands.
-fn binary(alloc: Global, op: BinOp, x: Expr, y: Expr) -> Result<Expr, AllocError> {
+pub(crate) fn binary(alloc: Global, op: BinOp, x: Expr, y: Expr) -> Result<Expr, AllocError> {
     Ok(Expr::Binary(op, Boxed::new(alloc, x)?, Boxed::new(alloc, y)?))
 }
 
@@ -20,7 +25,7 @@ fn one<T: Drop>(alloc: Global, entry: T) -> Result<Seq<T>, AllocError> {
 }
 
 /// A program that prints a value.
-fn printing(alloc: Global, value: Expr) -> Result<Program, AllocError> {
+pub(crate) fn printing(alloc: Global, value: Expr) -> Result<Program, AllocError> {
     let parts = one(alloc, PrintPart::Value(value))?;
     let what = StmtKind::Print { parts };
     let what = ItemKind::Main {
