@@ -27,7 +27,7 @@ SUM = b"1" + b" + 2" * 200
 KINDS = {
     "prints": (b'print "row ", 1 + 2 + 3;\n', b'print("row ", 1 + 2 + 3)\n', b"main {\n"),
     "sums": (b"print " + SUM + b";\n", b"print(" + SUM + b")\n", b"main {\n"),
-    "asyncs": (b"async{offer 1;}\n", b"def f(): offer(1)\n", b"main {\nlet s = finish sum {\n"),
+    "asyncs": (b"async{offer 1;}\n", b"with a(): offer(1)\n", b"main {\nlet s = finish sum {\n"),
     "finishes": (b"finish{async{}}\n", b"with a():\n with b(): pass\n", b"main {\n"),
 }
 
@@ -38,8 +38,8 @@ DEEP = {
     "one brace": b"main {" + END,
     "32 braces": b"main {" + b"finish {" * 31 + b"}" * 31 + END,
     "31 parentheses": b"main { print " + b"(" * 31 + b"1" + b")" * 31 + b"; " + END,
-    "31 parentheses, each behind an operator of each level": b"main { print "
-    + (LEVELS + b"(") * 31
+    "31 `-at`, each behind an operator of each level": b'lines c from ""; main { print '
+    + (LEVELS + b"-at(c, 1, ") * 31
     + b"1"
     + b")" * 31
     + b"; "
