@@ -2,8 +2,6 @@
 #![tactic(auto)]
 
 #[cfg(test)]
-mod arguments;
-#[cfg(test)]
 mod by_all_ways;
 #[cfg(test)]
 mod checks;

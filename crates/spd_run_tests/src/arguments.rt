@@ -2,13 +2,15 @@
 
 ghost use Rattle.std.specs.Prelude.{Some};
 
-use crate::serving::sink_failing_at;
+use crate::running::sink_failing_at;
 use spd_io::{MemShelf, MemSink};
 use spd_list::Seq;
 use spd_process::{Arguments, all_arguments};
 use spd_top::serve_arguments;
 use std::alloc::{AllocError, Global};
+use std::sync::Wait;
 use std::test::Fail;
+use std::thread::Threads;
 
 /// Arguments, and what out and err get, and the status.
 type Row = (&'static [&'static [u8]], (&'static [u8], &'static [u8], u8));
@@ -17,8 +19,10 @@ const RAN: (&[u8], &[u8], u8) = (b"3\n", b"", 0);
 
 const REFUSED: (&[u8], &[u8], u8) = (b"", b"spd: words refused\n", 2);
 
-static ROWS: [Row; 16] = [
+static ROWS: [Row; 18] = [
     (&[b"spd", b"elide", b"a.sp"], RAN),
+    (&[b"spd", b"run", b"a.sp"], RAN),
+    (&[b"spd", b"run", b"--seed", b"7", b"a.sp"], RAN),
     (&[b"spd", b"elide", b"\xc3\xa9 .sp"], RAN),
     // The program's own name is not looked at.
     (&[b"\xff", b"elide", b"a.sp"], RAN),
@@ -78,7 +82,7 @@ fn arguments_behind_the_first_are_the_words(rt: HostRuntime) -> Result<(), Fail>
         let mut out = MemSink::new(alloc, 64)?;
         let mut err = MemSink::new(alloc, 64)?;
         let all = all_arguments(alloc, &telling(alloc, arguments)?);
-        let answer = serve_arguments(alloc, all, &mut shelf, &mut out, &mut err);
+        let answer = serve_arguments(&rt, alloc, all, &mut shelf, &mut out, &mut err);
         assert_eq!(rt; answer, *status, "{arguments:?}");
         assert_eq!(rt; out.bytes(), *out_gets, "out of {arguments:?}");
         assert_eq!(rt; err.bytes(), *err_gets, "err of {arguments:?}");
@@ -103,7 +107,8 @@ static UNSERVED: [(u32, (&[u8], u8), (&[u8], u8)); 3] = [
 ];
 
 /// The status where no program is called for, and what err got.
-fn unserved(
+fn unserved<R: Threads + Wait + Sync>(
+    rt: &R,
     alloc: Global,
     arguments: Result<Seq<Seq<u8>>, AllocError>,
     call: u32,
@@ -111,7 +116,7 @@ fn unserved(
     let mut err = sink_failing_at(alloc, call)?;
     let mut shelf = MemShelf::new(alloc);
     let mut out = MemSink::new(alloc, 64)?;
-    let status = serve_arguments(alloc, arguments, &mut shelf, &mut out, &mut err);
+    let status = serve_arguments(rt, alloc, arguments, &mut shelf, &mut out, &mut err);
     Ok((status, err))
 }
 
@@ -119,10 +124,10 @@ fn unserved(
 fn lines_that_need_no_memory_are_told(rt: HostRuntime) -> Result<(), Fail> {
     let alloc = rt.alloc();
     for (call, (not_had_line, not_had_status), (refused_line, refused_status)) in &UNSERVED {
-        let (status, err) = unserved(alloc, Err(AllocError), *call)?;
+        let (status, err) = unserved(&rt, alloc, Err(AllocError), *call)?;
         assert_eq!(rt; status, *not_had_status);
         assert_eq!(rt; err.bytes(), *not_had_line);
-        let (status, err) = unserved(alloc, Ok(Seq::new(alloc)), *call)?;
+        let (status, err) = unserved(&rt, alloc, Ok(Seq::new(alloc)), *call)?;
         assert_eq!(rt; status, *refused_status);
         assert_eq!(rt; err.bytes(), *refused_line);
     }
