@@ -69,6 +69,7 @@ FILES = {
     b"huge.sp": b'lines l from "huge.txt"; main { print 1; }\n',
     b"of_pipe.sp": b'lines l from "pipe.txt"; main { print len(l), size(l, 2); }\n',
     b"of_empty_pipe.sp": b'column n: int from "pipe.csv" field "n"; main { }\n',
+    b"sums.sp": b"main { let s = finish sum { for i in 0..100 { async { offer i; } } } print s; }\n",
     b"closed.sp": b"main { print 1; }\n",
     b"of_closed.sp": b'lines l from "closed.txt"; main { print 1; }\n',
     b"closed.txt": b"a\n",
@@ -254,9 +255,24 @@ def under_check(row):
     return dataclasses.replace(row, what=f"{row.what} under check", words=[b"check", row.words[1]])
 
 
+def on_workers(row):
+    """The row of an elision by `run`: on workers a program answers the same."""
+    return dataclasses.replace(row, what=f"{row.what}, on workers", words=[b"run", *row.words[1:]])
+
+
 OF_FAULTS = [row_of(it) for it in FAULTS]
 ROWS += OF_FAULTS
+ROWS += [on_workers(it) for it in ROWS if it.words[:1] == [b"elide"] and it.most_memory is None]
 ROWS += [under_check(it) for it in OF_FAULTS if it.status == 1]
+ROWS += [
+    Row("64 workers within one move", [b"run", b"--workers", b"64", b"sums.sp", b"--moves", b"1"], 0, b"4950\n"),
+    Row("one worker", [b"run", b"sums.sp", b"--workers", b"1"], 0, b"4950\n"),
+    Row("no worker", [b"run", b"sums.sp", b"--workers", b"0"], 2, err=REFUSED),
+    Row("a worker too many", [b"run", b"sums.sp", b"--workers", b"65"], 2, err=REFUSED),
+    Row("an option without its value", [b"run", b"sums.sp", b"--workers"], 2, err=REFUSED),
+    Row("an option twice", [b"run", b"sums.sp", b"--seed", b"1", b"--seed", b"1"], 2, err=REFUSED),
+    Row("workers for an elision", [b"elide", b"sums.sp", b"--workers", b"1"], 2, err=REFUSED),
+]
 
 
 def opened(is_what, at):
