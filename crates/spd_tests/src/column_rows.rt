@@ -1,10 +1,12 @@
 // Programs over columns that are made by hand: what they print, and how they end.
 
-use crate::ends::expect_end;
 use crate::jobs::code_of;
 use crate::ways::{expect_unbounded_over, faultless};
+use spd_check::Code;
 use spd_data::{Column, Data, Ints, Texts};
-use spd_spine::End;
+use spd_io::MemSink;
+use spd_machine::ElideRegions;
+use spd_spine::{End, RunError, run_main};
 use std::alloc::{AllocError, Global};
 use std::process::Abort;
 use std::test::Fail;
@@ -42,12 +44,21 @@ fn data_of(alloc: Global, columns: &[Cells]) -> Result<Data, AllocError> {
     Ok(data)
 }
 
+/// How main of a program over columns ends, by the elision of its finishes and calls.
+fn end_of(alloc: Global, code: &Code, columns: &Data, out: &mut MemSink) -> Result<End, RunError> {
+    run_main(alloc, code.tree(), columns, &mut ElideRegions, out)
+}
+
 /// Asserts what a program over columns prints, and how it ends.
 fn expect_row(rt: &(impl Abort + AllocGlobal), row: &ColumnRow) -> Result<(), AllocError> {
     let code = code_of(rt, row.text);
     let columns = data_of(rt.alloc(), row.columns)?;
+    let mut out = MemSink::new(rt.alloc(), 256)?;
     let told = String::from_utf8_lossy(rt.alloc(), row.text)?;
-    expect_end(rt, &code, &columns, row.prints, row.end, told.as_str())
+    let end = end_of(rt.alloc(), &code, &columns, &mut out);
+    assert_eq!(rt; end, Ok(row.end), "{told}");
+    assert_eq!(rt; out.bytes(), row.prints, "{told}");
+    Ok(())
 }
 
 /// Columns of one int column.
@@ -56,7 +67,7 @@ const PRICES: &[Cells] = &[Cells::Ints(&[10, -4, 7])];
 /// Columns of one text column.
 const NAMES: &[Cells] = &[Cells::Texts(&[b"ab", b"", b"a\xFFb"])];
 
-static INTS: [ColumnRow; 9] = [
+static INTS: [ColumnRow; 8] = [
     ColumnRow {
         text: b"column c: int from \"p.csv\" field \"price\";\nmain { print len(c), \" \", c[0], \" \", c[1], \" \", c[2]; }",
         columns: PRICES,
@@ -101,13 +112,6 @@ static INTS: [ColumnRow; 9] = [
         text: b"column c: int from \"p.csv\" field \"x\"; lines t from \"t\"; column d: int from \"p.csv\" field \"y\"; main { print d[0], c[0], len(t); }",
         columns: &[Cells::Ints(&[1]), Cells::Texts(&[]), Cells::Ints(&[2])],
         prints: b"210\n",
-        end: End::Done,
-    },
-    // A column, a function and a variable may have one name.
-    ColumnRow {
-        text: b"column c: int from \"p.csv\" field \"x\"; fn c(c) { return c + len(c); } main { let c = c(1); print c, \" \", c[c - 3], \" \", len(c); }",
-        columns: PRICES,
-        prints: b"4 -4 3\n",
         end: End::Done,
     },
     // A fault in an async of a finish, at line 2.

@@ -1,12 +1,12 @@
-// The job that main meets first, which each way runs.
+// The job of the finish with which a program begins, which each way runs.
 
 use spd_check::Code;
-use spd_data::Data;
-use spd_io::MemSink;
-use spd_machine::Job;
-use spd_spine::{Spine, SpineTurn};
+use spd_code::{CodeBlock, CodeStmtKind};
+use spd_level::kind_of;
+use spd_machine::{Job, JobBody};
 use spd_top::build;
-use std::alloc::AllocError;
+use spd_words::FinishKind;
+use std::alloc::Global;
 use std::process::Abort;
 
 /// The code of a text that spells a program.
@@ -17,16 +17,25 @@ pub(crate) fn code_of(rt: &(impl Abort + AllocGlobal), text: &[u8]) -> Code {
     }
 }
 
-/// The first finish or call of main, as main meets it.
-pub(crate) fn first_job<'a>(
-    rt: &(impl Abort + AllocGlobal),
-    code: &'a Code,
-    columns: &'a Data,
-) -> Result<Job<'a>, AllocError> {
-    let mut out = MemSink::new(rt.alloc(), 64)?;
-    let mut spine = Spine::new(rt.alloc(), code.tree(), columns)?;
-    match spine.next(&mut out) {
-        SpineTurn::Region(job) => Ok(job),
-        _ => panic!(rt; "main meets no finish and no call"),
+/// A finish of this kind over no values, as main meets it.
+fn job_of<'a>(alloc: Global, kind: FinishKind, block: &'a CodeBlock) -> Job<'a> {
+    let body = JobBody::Block {
+        block,
+        left: 256,
+        vars: Vec::new(alloc),
+    };
+    Job { kind, body }
+}
+
+/// The job of the finish with which main begins.
+pub(crate) fn first_job<'a>(rt: &(impl Abort + AllocGlobal), code: &'a Code) -> Job<'a> {
+    let stmts = &code.tree().main.stmts;
+    if stmts.is_empty() {
+        panic!(rt; "main is empty");
+    }
+    match &stmts.get(0).what {
+        CodeStmtKind::LetFinish { kind, body } => job_of(rt.alloc(), kind_of(*kind), body),
+        CodeStmtKind::Finish { body } => job_of(rt.alloc(), FinishKind::Plain, body),
+        _ => panic!(rt; "main begins with no finish"),
     }
 }

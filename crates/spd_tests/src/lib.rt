@@ -2,8 +2,6 @@
 #![tactic(auto)]
 
 #[cfg(test)]
-mod by_all_ways;
-#[cfg(test)]
 mod checks;
 #[cfg(test)]
 mod column_rows;
@@ -12,15 +10,11 @@ mod commands;
 #[cfg(test)]
 mod data_commands;
 #[cfg(test)]
-mod ends;
-#[cfg(test)]
 mod events;
 #[cfg(test)]
 mod families;
 #[cfg(test)]
 mod finish_rows;
-#[cfg(test)]
-mod job_rows;
 #[cfg(test)]
 mod jobs;
 #[cfg(test)]

@@ -1,4 +1,4 @@
-// All ways to run a finish or a call: each gives the same, in as many moves as its bound leaves it.
+// All ways to run a finish: each gives the same, in as many moves as its bound leaves it.
 
 ghost use Rattle.std.specs.Prelude.{◌<◌};
 ghost use Rattle.spd_region.specs.Dag.{MayRun};
@@ -38,7 +38,7 @@ fn region_of(kind: FinishKind, events: &[Met]) -> Region {
     Region { given, moves }
 }
 
-/// Asserts what the first finish or call of main has by the ways that know no bound of moves.
+/// Asserts what the first finish of main has by the ways that know no bound of moves.
 pub(crate) fn expect_unbounded(
     rt: &(impl Abort + AllocGlobal),
     code: &Code,
@@ -58,13 +58,13 @@ pub(crate) fn expect_unbounded_over(
     row: &str,
 ) -> Result<(), AllocError> {
     let alloc = rt.alloc();
-    let given = elide_body(alloc, code.tree(), columns, first_job(rt, code, columns)?)?;
+    let given = elide_body(alloc, code.tree(), columns, first_job(rt, code))?;
     assert_eq!(rt; given, has.given, "elided: {row}");
-    let given = ElideRegions.region(alloc, code.tree(), columns, first_job(rt, code, columns)?)?;
+    let given = ElideRegions.region(alloc, code.tree(), columns, first_job(rt, code))?;
     assert_eq!(rt; given, has.given, "a region of the elision: {row}");
-    let given = PlainRegions.region(alloc, code.tree(), columns, first_job(rt, code, columns)?)?;
+    let given = PlainRegions.region(alloc, code.tree(), columns, first_job(rt, code))?;
     assert_eq!(rt; given, has.given, "a region of vertices: {row}");
-    let job = first_job(rt, code, columns)?;
+    let job = first_job(rt, code);
     let kind = job.kind;
     let events = events_of(alloc, Task::of_job(alloc, code.tree(), columns, job)?)?;
     assert_eq!(rt;
@@ -90,7 +90,7 @@ fn region_within<'a>(
     Ok(region)
 }
 
-/// Asserts what the first finish or call of main has where so many moves may be drawn.
+/// Asserts what the first finish of main has where so many moves may be drawn.
 pub(crate) fn expect_within(
     rt: &(impl Abort + AllocGlobal),
     code: &Code,
@@ -100,45 +100,13 @@ pub(crate) fn expect_within(
 ) -> Result<(), AllocError>
     requires { 0 < bound }
 {
-    let columns = Data::new(rt.alloc());
-    let job = first_job(rt, code, &columns)?;
+    let job = first_job(rt, code);
     let kind = job.kind;
+    let columns = Data::new(rt.alloc());
     let task = Task::of_job(rt.alloc(), code.tree(), &columns, job)?;
     let found = region_within(rt.alloc(), kind, task, bound)?;
     let moves = has.moves.min(bound);
     let given = has.given;
     assert_eq!(rt; found, Region { given, moves }, "within {bound}: {row}");
-    Ok(())
-}
-
-/// Asserts the events of the task of main's first finish or call.
-fn expect_events(
-    rt: &(impl Abort + AllocGlobal),
-    code: &Code,
-    events: &[Met],
-    row: &str,
-) -> Result<(), AllocError> {
-    let columns = Data::new(rt.alloc());
-    let job = first_job(rt, code, &columns)?;
-    let task = Task::of_job(rt.alloc(), code.tree(), &columns, job)?;
-    let found = events_of(rt.alloc(), task)?;
-    assert_eq!(rt; found.as_slice(), events, "events: {row}");
-    Ok(())
-}
-
-/// Asserts what the first finish or call of main has by all ways, with each bound of moves up to its
-/// own number, and the events of its task.
-pub(crate) fn expect_all_ways(
-    rt: &(impl Abort + AllocGlobal),
-    code: &Code,
-    has: Region,
-    events: &[Met],
-    row: &str,
-) -> Result<(), AllocError> {
-    expect_events(rt, code, events, row)?;
-    expect_unbounded(rt, code, has, row)?;
-    for below in 0..has.moves {
-        expect_within(rt, code, has, below + 1, row)?;
-    }
     Ok(())
 }

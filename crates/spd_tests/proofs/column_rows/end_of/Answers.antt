@@ -1,4 +1,4 @@
-use Rattle.spd_tests.proofs.ends.end_of.Goals as goal
+use Rattle.spd_tests.proofs.column_rows.end_of.Goals as goal
 
 pub run_main-requires : goal.run_main-requires
 run_main-requires c = record {
