@@ -30,6 +30,7 @@ module _ {B : Type 0} (p : PlanView) (a : Dag) (homes : List (maybe.Option (Opti
     flying = rule.flying;
     moves = rule.moves;
     marks = rule.marks;
+    starts = rule.starts;
     runs = rule.runs;
     live = rule.live;
     counts = rule.counts;
@@ -75,6 +76,7 @@ module _ (v : View) where
     full_grows = ap (λ (u : View). u.full_grows) e;
     spawns = ap (λ (u : View). u.spawns) e;
     fresh = ap (λ (u : View). u.fresh) e;
+    starts = ap (λ (u : View). u.starts) e;
     ready = ap (λ (u : View). u.ready) e;
     done = ap (λ (u : View). u.done) e;
   }

@@ -16,7 +16,7 @@ use Rattle.spd_state.specs.Parts.{RunsOk, FlightsOk, OwnOk, GrowsOk, Rule}
 use Rattle.spd_state.specs.Tree.{TreeOk}
 use Rattle.spd_state.specs.declared.view.Running.{Running}
 use Rattle.spd_state.specs.declared.view.View.{View}
-use Rattle.spd_state.proofs.Frames.{moves_kept, live_kept, counts_kept, balances_kept, finishes_kept, slots_kept, marks_kept, bare_kept, growth_view}
+use Rattle.spd_state.proofs.Frames.{moves_kept, live_kept, counts_kept, balances_kept, finishes_kept, slots_kept, marks_kept, bare_kept, growth_view, starts_kept}
 use Rattle.spd_state.proofs.Loads.{over_keeps}
 use Rattle.spd_state.proofs.Makers.{maker_alike}
 use Rattle.spd_state.proofs.Rights.{running_ok}
@@ -75,6 +75,7 @@ module _ {B : Type 0} (p : PlanView) (a : Dag) (homes : List (maybe.Option (Opti
     moves = moves_kept p.moves a.drawn a.nodes a.pairs a.vertices (flights vs) (flights after)
         (λ d. total_kept (λ (u : View). flies_in d u.flight) vs id v w at refl) rule.moves;
     marks = marks_kept p.moves a.drawn vs id v w at refl refl refl rule.marks;
+    starts = starts_kept p.moves a.vertices vs id v w at refl refl rule.starts;
     runs = record { one = λ k l. let t = total_kept (λ (u : View). runs_it k u.running) vs id v w at refl in let b = rule.runs.one k l in omega arith };
     live = live_kept p a.trees (openings a.vertices vs) (openings a.vertices after) (units p a vs) (units p a after) a.vertices openings' units' rule.live;
     counts = counts_kept p.moves p.grown a.nodes (units p a vs) (units p a after) (halves vs) (halves after) units'

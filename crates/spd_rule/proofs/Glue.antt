@@ -125,6 +125,7 @@ marked_rule p a homes vs expects region tame rule = record {
   flying = rule.flying;
   moves = rule.moves;
   marks = rule.marks;
+  starts = rule.starts;
   runs = rule.runs;
   live = rule.live;
   counts = rule.counts;

@@ -17,7 +17,7 @@ use Rattle.spd_state.specs.declared.view.View.{View}
 use Rattle.spd_state.proofs.Sums.{total_set, total_kept, each_kept, same_self, same_else}
 use Rattle.spd_state.proofs.Makers.{maker_none}
 use Rattle.spd_state.proofs.Past.{past_view}
-use Rattle.spd_state.proofs.Frames.{moves_kept, runs_kept, live_kept, counts_kept, balances_kept, finishes_kept, marks_kept, bare_kept, growth_view}
+use Rattle.spd_state.proofs.Frames.{moves_kept, runs_kept, live_kept, counts_kept, balances_kept, finishes_kept, marks_kept, bare_kept, growth_view, starts_kept}
 
 module _ {B : Type 0} (p : PlanView) (a : Dag) (homes : List (maybe.Option (Option B))) (vs : List View) (rule : Rule p a homes vs) (id : ℕ) (v : View)
     (at : get_elem? vs id ≡ some v)
@@ -86,6 +86,7 @@ module _ {B : Type 0} (p : PlanView) (a : Dag) (homes : List (maybe.Option (Opti
         moves = moves_kept p.moves a.drawn a.nodes a.pairs a.vertices (flights vs) (flights after)
             (λ d. total_kept (λ (u : View). flies_in d u.flight) vs id v w at refl) rule.moves;
         marks = marks_kept p.moves a.drawn vs id v w at refl refl refl rule.marks;
+        starts = starts_kept p.moves a.vertices vs id v w at refl refl rule.starts;
         runs = runs_kept p.moves a.vertices (runners vs) (runners after) (λ x. total_kept (λ (u : View). runs_it x u.running) vs id v w at refl) rule.runs;
         live = live_kept p a.trees (openings a.vertices vs) (openings a.vertices after) (units p a vs) (units p a after) a.vertices openings' units' rule.live;
         counts = counts_kept p.moves p.grown a.nodes (units p a vs) (units p a after) (halves vs) (halves after) units'

@@ -64,6 +64,7 @@ module _ {B : Type 0} (told_of : B → BodyView) (p : PlanView) (slots id : ℕ)
         full_grows = refl;
         spawns = refl;
         fresh = refl;
+        starts = refl;
         ready = refl;
         done = refl;
       } refl (λ e. e)

@@ -28,7 +28,7 @@ use Rattle.spd_state.proofs.Rights.{count_le, units_few, unit_counts, right_hold
 use Rattle.spd_state.specs.Tree.{Under, no_node, TreeOk}
 use Rattle.spd_state.specs.Dag.{halves, half_of, aboves, above_of, claimed_units}
 use Rattle.spd_state.specs.Parts.{GrowsOk}
-use Rattle.spd_state.proofs.Frames.{bare_kept, growth_view, lives_alike}
+use Rattle.spd_state.proofs.Frames.{bare_kept, growth_view, lives_alike, starts_kept}
 use Rattle.spd_state.proofs.Rights.{unit_roots}
 
 module _ {B : Type 0} (p : PlanView) (a : Dag) (homes : List (maybe.Option (Option B))) (vs : List View) (rule : Rule p a homes vs) (id : ℕ)
@@ -185,6 +185,7 @@ module _ {B : Type 0} (p : PlanView) (a : Dag) (homes : List (maybe.Option (Opti
           (flies v.flight (rule.flying id v at)) rule.flying (λ j u _ _ k. flies u.flight k);
       moves = moves';
       marks = marks_kept p.moves a.drawn vs id v w at refl refl refl rule.marks;
+      starts = starts_kept p.moves a.vertices vs id v w at refl refl rule.starts;
       runs = runs_kept p.moves a.vertices (runners vs) (runners after)
           (λ x. total_kept (λ (u : View). runs_it x u.running) vs id v w at refl) rule.runs;
       live = record {

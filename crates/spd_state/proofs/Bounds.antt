@@ -1,6 +1,6 @@
--- What the counts of all views bound: the words that are only drawn from, what one share makes ready, how many finishes it is told; and what a share
--- with all seats knows of the others.
-use Rattle.std.proofs.Common.{◌≡◌, ◌≢◌, ℕ, ◌+◌, ◌*◌, ◌<◌, ◌≤◌, List, [], ◌∷◌, length, refl, sym, arith, Option, Some, None}
+-- What the counts of all views bound: the words that are only drawn from, what one share makes ready and starts, how many finishes it is told; and
+-- what a share with all seats knows of the others, and of the vertices that are started.
+use Rattle.std.proofs.Common.{◌≡◌, ◌≢◌, ℕ, ◌+◌, ◌*◌, ◌<◌, ◌≤◌, List, [], ◌∷◌, length, refl, sym, ◌∙◌, arith, Option, Some, None}
 use mathlib.Core.Option.{some}
 use mathlib.Core.Option as maybe
 use mathlib.Core.Logic.{dite}
@@ -9,17 +9,23 @@ use lib.ListN.{get_elem?}
 use Prim.Native.Nat.{zero, suc}
 use Rattle.spd_words.specs.Plan.{PlanView}
 use Rattle.spd_state.specs.Sums.{total, count, sum_below}
-use Rattle.spd_state.specs.Dag.{Dag, busy, goods, openings, tellers}
+use Rattle.spd_state.specs.Dag.{Dag, busy, goods, openings, tellers, started}
 use Rattle.spd_state.specs.History.{woken}
 use Rattle.spd_state.specs.Parts.{Rule}
 use Rattle.spd_state.specs.Seats.{IsEmpty}
 use Rattle.spd_state.specs.declared.view.View.{View}
-use Rattle.spd_state.proofs.Sums.{same_self, same_else, sum_change, sum_none, sum_bound, total_has, total_two, total_le}
+use Rattle.spd_state.proofs.Sums.{same_self, same_else, sum_change, sum_none, sum_bound, total_has, total_two, total_le, total_only}
 
 woken_le : (s : ℕ) → woken s ≤ 1
 woken_le zero = omega arith
 woken_le (suc zero) = omega arith
 woken_le (suc (suc s)) = omega arith
+
+started_le : (s : ℕ) → started s ≤ 1
+started_le zero = omega arith
+started_le (suc zero) = omega arith
+started_le (suc (suc zero)) = omega arith
+started_le (suc (suc (suc s))) = omega arith
 
 -- a list of numbers below n is as long as the counts of these numbers add up to
 length_counts : (n : ℕ) (l : List ℕ) → ((k : ℕ) → 0 < count k l → k < n) → length l ≡ sum_below n (λ k. count k l)
@@ -89,6 +95,15 @@ module _ {B : Type 0} (p : PlanView) (a : Dag) (homes : List (maybe.Option (Opti
     pub ready_few : v.ready ≤ 2 * p.moves
     ready_few = let r = rule.history.tallied.ready in let t = total_has (λ (u : View). u.ready) vs id v at in
         let b = sum_bound (2 * p.moves) (λ x. woken (a.vertices x).state) 1 (λ x _. woken_le (a.vertices x).state) in omega arith
+
+    pub starts_few : v.starts ≤ 2 * p.moves
+    starts_few = let r = rule.starts.all in let t = total_has (λ (u : View). u.starts) vs id v at in
+        let b = sum_bound (2 * p.moves) (λ x. started (a.vertices x).state) 1 (λ x _. started_le (a.vertices x).state) in omega arith
+
+    -- the share with all seats has started whatever is started, by itself or by those that were joined into it
+    pub all_starts : v.seats + v.spare ≡ 64 → v.starts ≡ sum_below (2 * p.moves) (λ x. started (a.vertices x).state)
+    all_starts all = sym (total_only (λ (u : View). u.starts) vs id v at (λ j u apart e. let m = rule.marks.seats in
+        let t = total_two (λ (u : View). u.seats + u.spare) vs j id u v e at apart in rule.starts.spent j u e (omega arith))) ∙ rule.starts.all
 
     -- the share with all seats is alone: every other view is spent and holds nothing
     pub others_empty : v.seats + v.spare ≡ 64 → (j : ℕ) (u : View) → j ≢ id → get_elem? vs j ≡ some u → IsEmpty u

@@ -98,6 +98,7 @@ module _ {B : Type 0} (p : PlanView) (a : Dag) (homes : List (maybe.Option (Opti
         forks = sym (ap forks_in flies);
         done = refl;
         fresh = refl;
+        starts = refl;
         spawns = refl;
         own = record {
           claims = ((λ (z : 0 ≡ 1). absurd (omega arith)), λ n z. let c : count n v.claimed ≡ 0 = ap (count n) no_claim in absurd (omega arith));

@@ -23,7 +23,7 @@ use Rattle.spd_state.proofs.Rights.{running_ok, pair_inside, right_counts, uncla
 use Rattle.spd_state.specs.Tree.{Trees, Under, TreeOk}
 use Rattle.spd_state.specs.Dag.{halves, half_of, aboves, above_of, claimed_units, claimed_above}
 use Rattle.spd_state.specs.Parts.{GrowsOk}
-use Rattle.spd_state.proofs.Frames.{bare_kept, growth_view}
+use Rattle.spd_state.proofs.Frames.{bare_kept, growth_view, starts_kept}
 use Rattle.spd_state.proofs.Rights.{claimed_none, above_none}
 
 pub claim_tops : (p : PlanView) (t : Trees) (f : ℕ) (q : Pair) → Tops p t f q → Tops p t f (claim_pair q)
@@ -166,6 +166,7 @@ module _ {B : Type 0} (p : PlanView) (a : Dag) (homes : List (maybe.Option (Opti
         (flies v.flight (rule.flying id v at)) rule.flying (λ j u _ _ k. flies u.flight k);
     moves = moves';
     marks = marks_kept p.moves a.drawn vs id v w at refl refl refl rule.marks;
+    starts = starts_kept p.moves a.vertices vs id v w at refl refl rule.starts;
     runs = runs_kept p.moves a.vertices (runners vs) (runners after)
         (λ x. total_kept (λ (u : View). runs_it x u.running) vs id v w at (ap (runs_it x) (sym is))) rule.runs;
     live = live_kept p a.trees (openings a.vertices vs) (openings a.vertices after) (units p a vs)

@@ -6,11 +6,11 @@ use lib.ListN.{get_elem?}
 use Rattle.spd_words.specs.Words.{Node, Pair, Vertex}
 use Rattle.spd_state.specs.declared.view.View.{View}
 use Rattle.spd_words.specs.Plan.{PlanView}
-use Rattle.spd_state.specs.Sums.{total}
+use Rattle.spd_state.specs.Sums.{total, put}
 use Rattle.spd_state.specs.Tree.{Trees, lives, live_under, NodeRule, Bare, GrowthRule}
-use Rattle.spd_state.specs.Dag.{nursed, nurses}
-use Rattle.spd_state.specs.Parts.{MoveRule, MarkRule, RunRule, LiveRule, PairRule, FinishRule, SlotRule, home}
-use Rattle.spd_state.proofs.Sums.{total_kept, each_kept, positive_back}
+use Rattle.spd_state.specs.Dag.{nursed, nurses, started}
+use Rattle.spd_state.specs.Parts.{MoveRule, MarkRule, StartRule, RunRule, LiveRule, PairRule, FinishRule, SlotRule, home}
+use Rattle.spd_state.proofs.Sums.{total_kept, total_set, sum_put, each_kept, positive_back}
 
 -- two functions with the same values
 abbrev pub Alike : (ℕ → ℕ) → (ℕ → ℕ) → Type 0
@@ -127,6 +127,24 @@ slots_kept {B} m drawn vertices k k' homes e h = record {
   body = h.body;
   end = h.end;
   fresh = h.fresh;
+}
+
+-- a vertex is written: where it comes to be started, the share has one start more
+pub starts_put : (m : ℕ) (vertices : ℕ → Vertex) (vs : List View) (id : ℕ) (v w : View) → get_elem? vs id ≡ some v → (i : ℕ) (x : Vertex) → i < 2 * m
+    → w.starts + started (vertices i).state ≡ v.starts + started x.state → (w.seats ≡ 0 → w.starts ≡ 0) → StartRule m vertices vs
+    → StartRule m (put vertices i x) (set vs id w)
+starts_put m vertices vs id v w at i x low more none h = let a = h.all in let t = total_set (λ (u : View). u.starts) vs id v w at in
+    let s = sum_put (2 * m) (λ (_ : ℕ) (y : Vertex). started y.state) vertices i x low in record {
+      all = omega arith;
+      spent = each_kept (λ (u : View). u.seats ≡ 0 → u.starts ≡ 0) vs id w none h.spent;
+    }
+
+-- no vertex is written, and the share's starts stay
+pub starts_kept : (m : ℕ) (vertices : ℕ → Vertex) (vs : List View) (id : ℕ) (v w : View) → get_elem? vs id ≡ some v → w.starts ≡ v.starts
+    → w.seats ≡ v.seats → StartRule m vertices vs → StartRule m vertices (set vs id w)
+starts_kept m vertices vs id v w at starts seats h = record {
+  all = total_kept (λ (u : View). u.starts) vs id v w at starts ∙ h.all;
+  spent = each_kept (λ (u : View). u.seats ≡ 0 → u.starts ≡ 0) vs id w (λ z. starts ∙ h.spent id v at (sym seats ∙ z)) h.spent;
 }
 
 -- a view whose draws, seats and spare stay

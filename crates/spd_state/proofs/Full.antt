@@ -18,7 +18,7 @@ use Rattle.spd_state.proofs.Frames.{moves_kept, runs_kept, live_kept, counts_kep
 use Rattle.spd_state.specs.Tree.{TreeOk}
 use Rattle.spd_state.specs.Dag.{halves, half_of, aboves, above_of}
 use Rattle.spd_state.specs.Parts.{GrowsOk}
-use Rattle.spd_state.proofs.Frames.{bare_kept, growth_view}
+use Rattle.spd_state.proofs.Frames.{bare_kept, growth_view, starts_kept}
 
 -- a later drawn number keeps what flights say
 pub later : (p : PlanView) (a : Dag) (o : Option Flight) → FlightsOk p a.trees a.drawn a.nodes a.pairs a.vertices o
@@ -93,6 +93,7 @@ module _ {B : Type 0} (p : PlanView) (a : Dag) (homes : List (maybe.Option (Opti
             by_seats = each_kept (λ (u : View). u.full_draws ≤ u.seats) vs id f (omega arith) rule.marks.by_seats;
             seats = let k = total_kept (λ (u : View). u.seats + u.spare) vs id v f at refl in let h = rule.marks.seats in omega arith;
           };
+          starts = starts_kept p.moves a.vertices vs id v f at refl refl rule.starts;
           runs = runs_kept p.moves a.vertices (runners vs) (runners after)
               (λ x. total_kept (λ (u : View). runs_it x u.running) vs id v f at refl) rule.runs;
           live = live_kept p a.trees (openings a.vertices vs) (openings a.vertices after) (units p a vs)

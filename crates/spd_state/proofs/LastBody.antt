@@ -109,6 +109,7 @@ module _ {B : Type 0} (p : PlanView) (a : Dag) (homes : List (maybe.Option (Opti
     forks = sym (ap forks_in flies ∙ kind.fork);
     done = refl;
     fresh = refl;
+    starts = refl;
     spawns = refl;
     own = record {
       claims = over.1;

@@ -21,7 +21,7 @@ use Rattle.spd_state.specs.Sums.{total}
 use Rattle.spd_state.specs.Tree.{TreeOk}
 use Rattle.spd_state.specs.Dag.{halves, half_of, aboves, above_of, nursed, nurses, claimed_units, claimed_above, above_units}
 use Rattle.spd_state.specs.Parts.{GrowsOk}
-use Rattle.spd_state.proofs.Frames.{bare_kept, growth_view}
+use Rattle.spd_state.proofs.Frames.{bare_kept, growth_view, starts_kept}
 
 -- the entries that the rule reads, but for the running vertex
 pub record Same (v w : View) : Type 0 where
@@ -45,6 +45,7 @@ pub record Same (v w : View) : Type 0 where
   pub spawns : w.spawns ≡ v.spawns
   pub fresh : w.fresh ≡ v.fresh
   pub ready : w.ready ≡ v.ready
+  pub starts : w.starts ≡ v.starts
   pub done : w.done ≡ v.done
 
 module _ {B : Type 0} (p : PlanView) (a : Dag) (homes : List (maybe.Option (Option B))) (vs : List View) (rule : Rule p a homes vs) (id : ℕ)
@@ -105,6 +106,7 @@ module _ {B : Type 0} (p : PlanView) (a : Dag) (homes : List (maybe.Option (Opti
         moves = moves_kept p.moves a.drawn a.nodes a.pairs a.vertices (flights vs) (flights after)
             (λ d. total_kept (λ (u : View). flies_in d u.flight) vs id v w at (ap (flies_in d) like.flight)) rule.moves;
         marks = marks_kept p.moves a.drawn vs id v w at like.full_draws like.seats like.spare rule.marks;
+        starts = starts_kept p.moves a.vertices vs id v w at like.starts like.seats rule.starts;
         runs = record {
           one = λ k l. let t = total_set (λ (u : View). runs_it k u.running) vs id v w at in let f = fewer k in
               let b = rule.runs.one k l in omega arith;

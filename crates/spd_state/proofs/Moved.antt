@@ -30,7 +30,7 @@ use Rattle.spd_state.proofs.Frames.{runs_kept, live_kept, counts_kept, balances_
 use Rattle.spd_state.specs.Tree.{TreeOk}
 use Rattle.spd_state.specs.Dag.{halves, half_of, aboves, above_of}
 use Rattle.spd_state.specs.Parts.{GrowsOk}
-use Rattle.spd_state.proofs.Frames.{bare_kept, growth_view}
+use Rattle.spd_state.proofs.Frames.{bare_kept, growth_view, starts_kept}
 
 module _ {B : Type 0} (p : PlanView) (a : Dag) (homes : List (maybe.Option (Option B))) (vs : List View) (rule : Rule p a homes vs) (id : ℕ)
     (v : View) (at : get_elem? vs id ≡ some v) (seated : 0 < v.seats) where
@@ -296,6 +296,7 @@ module _ {B : Type 0} (p : PlanView) (a : Dag) (homes : List (maybe.Option (Opti
             by_seats = t.by_seats;
             seats = t.seats;
           };
+          starts = starts_kept p.moves a.vertices vs id v w at refl refl rule.starts;
           runs = runs_kept p.moves a.vertices (runners vs) (runners after)
               (λ x. total_kept (λ (u : View). runs_it x u.running) vs id v w at refl) rule.runs;
           live = live_kept p a.trees (openings a.vertices vs) (openings a.vertices after) (units p a vs)

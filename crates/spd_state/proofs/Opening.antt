@@ -6,7 +6,7 @@ use mathlib.Core.Option.{some, some-injective, some-ne-none}
 use lib.ListN.{get_elem?}
 use Rattle.spd_words.specs.Plan.{PlanView, IsPlan, grown_nodes}
 use Rattle.spd_state.specs.Sums.{gate, count, Each}
-use Rattle.spd_state.specs.Dag.{Dag, not_end, stands, handles, units}
+use Rattle.spd_state.specs.Dag.{Dag, not_end, stands, handles, units, started}
 use Rattle.spd_state.specs.Parts.{RunsOk, FlightsOk, OwnOk, Rule, no_pair, no_vertex, home}
 use Rattle.std.proofs.lemmas.Bool.{lt-ltb, le-ltb}
 use lib.Dec.{ltb}
@@ -163,6 +163,10 @@ opens {B} p plan = let m₀ = plan.moves.some in let m₁ = plan.moves.most in r
     passed = alone (λ (u : View). 0 < u.full_draws → p.moves < 0) (λ (z : 0 < 0). absurd (omega arith));
     by_seats = alone (λ (u : View). u.full_draws ≤ u.seats) (omega arith);
     seats = omega arith;
+  };
+  starts = record {
+    all = sym (sum_none (2 * p.moves) (λ v. started (no_vertex).state) (λ k l. refl));
+    spent = alone (λ (u : View). u.seats ≡ 0 → u.starts ≡ 0) (λ _. refl);
   };
   runs = record { one = λ v l. omega arith };
   live = record { shut = λ n l z. no_units n; finish = λ v l (z : 0 < 0). absurd (omega arith); inc = λ v l (z : 0 < 0). absurd (omega arith) };

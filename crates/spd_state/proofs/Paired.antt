@@ -121,6 +121,7 @@ module _ {B : Type 0} (p : PlanView) (a : Dag) (homes : List (maybe.Option (Opti
     full_grows = refl;
     sprout = refl;
     fresh = refl;
+    starts = refl;
     ready = refl;
     done = refl;
     spawns = refl;

@@ -18,7 +18,7 @@ use Rattle.spd_state.specs.declared.view.Flight.{Flight}
 use Rattle.spd_state.specs.declared.view.View.{View}
 use Rattle.spd_state.proofs.Sums.{same_self, same_else, put_case, sum_put, summand_le, total_set, total_kept, total_has, total_two, each_set}
 use Rattle.spd_state.proofs.Sums.{each_kept}
-use Rattle.spd_state.proofs.Frames.{moves_kept, runs_kept, live_kept, counts_kept, finishes_kept, slots_kept, marks_kept, bare_kept, growth_view}
+use Rattle.spd_state.proofs.Frames.{moves_kept, runs_kept, live_kept, counts_kept, finishes_kept, slots_kept, marks_kept, bare_kept, growth_view, starts_kept}
 use Rattle.spd_state.proofs.Past.{past_pair}
 
 -- the step's own part: the pair of the move d in flight becomes x, and the view w
@@ -52,6 +52,7 @@ pub record SetsPair (p : PlanView) (a : Dag) (v w : View) (d : ℕ) (x : Pair) :
   pub full_grows : w.full_grows ≡ v.full_grows
   pub sprout : w.sprout ≡ v.sprout
   pub fresh : w.fresh ≡ v.fresh
+  pub starts : w.starts ≡ v.starts
   pub ready : w.ready ≡ v.ready
   pub done : w.done ≡ v.done
   pub spawns : w.spawns ≡ v.spawns
@@ -159,6 +160,7 @@ module _ {B : Type 0} (p : PlanView) (a : Dag) (homes : List (maybe.Option (Opti
           blank_pair = λ e l b. put_case (λ q. q ≡ no_pair) a.pairs d x e (λ s. let g = step.begun in absurd (omega arith)) (λ _. h.blank_pair e l b);
         };
     marks = marks_kept p.moves a.drawn vs id v w at step.full_draws step.seats step.spare rule.marks;
+    starts = starts_kept p.moves a.vertices vs id v w at step.starts step.seats rule.starts;
     runs = runs_kept p.moves a.vertices (runners vs) (runners after)
         (λ k. total_kept (λ (y : View). runs_it k y.running) vs id v w at (ap (runs_it k) step.runs)) rule.runs;
     live = live_kept p a.trees (openings a.vertices vs) (openings a.vertices after) (units p a vs)

@@ -28,7 +28,7 @@ use Rattle.spd_state.proofs.Frames.{moves_kept, runs_kept, balances_kept, slots_
 use Rattle.spd_state.specs.Tree.{Under, lives, live_under, TreeOk, no_node}
 use Rattle.spd_state.specs.Dag.{halves, half_of, aboves, above_of}
 use Rattle.spd_state.specs.Parts.{GrowsOk}
-use Rattle.spd_state.proofs.Frames.{bare_kept, growth_view, lives_on}
+use Rattle.spd_state.proofs.Frames.{bare_kept, growth_view, lives_on, starts_kept}
 use Rattle.spd_state.proofs.Rights.{under_itself}
 
 -- a make or a chain
@@ -278,6 +278,7 @@ module _ {B : Type 0} (p : PlanView) (a : Dag) (homes : List (maybe.Option (Opti
               (λ _. h.blank_root e l b);
         };
     marks = marks_kept p.moves a.drawn vs id v w at refl refl refl rule.marks;
+    starts = starts_kept p.moves a.vertices vs id v w at refl refl rule.starts;
     runs = runs_kept p.moves a.vertices (runners vs) (runners after)
         (λ x. total_kept (λ (u : View). runs_it x u.running) vs id v w at refl) rule.runs;
     live = record {

@@ -91,6 +91,10 @@ module _ {B : Type 0} (p : PlanView) (a : Dag) (homes : List (maybe.Option (Opti
                 by_seats = each_half (λ (u : View). u.full_draws ≤ u.seats) (m.by_seats id v at) (omega arith) m.by_seats;
                 seats = omega arith;
               };
+          starts = record {
+            all = halves (λ (u : View). u.starts) (omega arith) ∙ rule.starts.all;
+            spent = each_half (λ (u : View). u.seats ≡ 0 → u.starts ≡ 0) (rule.starts.spent id v at) (λ _. refl) rule.starts.spent;
+          };
           runs = runs_kept p.moves a.vertices (runners vs) (runners after) (λ x. halves (λ (u : View). runs_it x u.running) (omega arith)) rule.runs;
           live = live_kept p a.trees (openings a.vertices vs) (openings a.vertices after) (units p a vs)
               (units p a after) a.vertices openings' units' rule.live;
@@ -136,7 +140,7 @@ module _ {B : Type 0} (p : PlanView) (a : Dag) (homes : List (maybe.Option (Opti
               (rule.grows id v at) record { paid = omega arith; passed = λ (z : 0 < 0). absurd (omega arith); by_seats = omega arith } rule.grows;
         }
 
-  -- the other share holds nothing, and its seats and draws go to this one
+  -- the other share holds nothing, and its seats, draws and starts go to this one
   module _ (other : ℕ) (o : View) (apart : other ≢ id) (there : get_elem? (set vs id (joined_view v o)) other ≡ some o) (empty : IsEmpty o) where
     abbrev w : View
     w = joined_view v o
@@ -216,6 +220,11 @@ module _ {B : Type 0} (p : PlanView) (a : Dag) (homes : List (maybe.Option (Opti
                 by_seats = each_both (λ (u : View). u.full_draws ≤ u.seats) (omega arith) (omega arith) m.by_seats;
                 seats = omega arith;
               };
+          starts = let s₁ = rule.starts.spent id v at in let s₂ = rule.starts.spent other o there_before in record {
+            all = sums (λ (u : View). u.starts) (omega arith) ∙ rule.starts.all;
+            spent = each_both (λ (u : View). u.seats ≡ 0 → u.starts ≡ 0) (λ z. let a = s₁ (omega arith) in let b = s₂ (omega arith) in omega arith)
+                (λ _. refl) rule.starts.spent;
+          };
           runs = runs_kept p.moves a.vertices (runners vs) (runners joined)
               (λ x. sums (λ (u : View). runs_it x u.running) (let z : runs_it x o.running ≡ 0 = ap (runs_it x) empty.running in
               omega arith)) rule.runs;

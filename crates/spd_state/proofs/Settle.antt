@@ -71,6 +71,7 @@ module _ {B : Type 0} (p : PlanView) (a : Dag) (homes : List (maybe.Option (Opti
         full_grows = refl;
         spawns = refl;
         fresh = refl;
+        starts = refl;
         ready = refl;
         done = refl;
       }

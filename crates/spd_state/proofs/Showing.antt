@@ -96,6 +96,7 @@ note_keeps p a homes vs rule id v at i x = load_keeps p a homes vs rule id v at 
       full_grows = refl;
       spawns = refl;
       fresh = refl;
+      starts = refl;
       ready = refl;
       done = refl;
     } refl (λ z. z)

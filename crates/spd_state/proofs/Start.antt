@@ -27,7 +27,7 @@ use Rattle.spd_state.proofs.Frames.{moves_kept, live_kept, counts_kept, finishes
 use Rattle.spd_state.specs.Tree.{Under, TreeOk}
 use Rattle.spd_state.specs.Dag.{halves, half_of, aboves, above_of}
 use Rattle.spd_state.specs.Parts.{GrowsOk}
-use Rattle.spd_state.proofs.Frames.{bare_kept, growth_view}
+use Rattle.spd_state.proofs.Frames.{bare_kept, growth_view, starts_put}
 
 not_end_le : (i : ℕ) → not_end i ≤ 1
 not_end_le zero = omega arith
@@ -237,6 +237,8 @@ module _ {B : Type 0} (p : PlanView) (a : Dag) (homes : List (maybe.Option (Opti
         (flies v.flight (rule.flying id v at)) rule.flying (λ j u _ _ k. flies u.flight k);
     moves = moves';
     marks = marks_kept p.moves a.drawn vs id v w at refl refl refl rule.marks;
+    starts = starts_put p.moves a.vertices vs id v w at i (start_word x) low (let z : started x.state ≡ 0 = ap started ready in omega arith)
+        (λ z. absurd (omega arith)) rule.starts;
     runs = record {
       one = λ k l. let t = runners' k in let b = rule.runs.one k l in
           put_case (λ (y : Vertex). runners after k ≤ started y.state) a.vertices i (start_word x) k

@@ -25,7 +25,7 @@ use Rattle.spd_state.proofs.Frames.{counts_kept, marks_kept}
 use Rattle.spd_state.specs.Tree.{Trees, Under, TreeOk}
 use Rattle.spd_state.specs.Dag.{halves, half_of, aboves, above_of}
 use Rattle.spd_state.specs.Parts.{GrowsOk}
-use Rattle.spd_state.proofs.Frames.{bare_kept, growth_view, lives_alike}
+use Rattle.spd_state.proofs.Frames.{bare_kept, growth_view, lives_alike, starts_put}
 
 -- the step's own part: the vertex i of the move d in flight becomes x, and the view w
 pub record Stored (p : PlanView) (a : Dag) (v w : View) (d i : ℕ) (x : Vertex) : Type 0 where
@@ -52,6 +52,7 @@ pub record Stored (p : PlanView) (a : Dag) (v w : View) (d i : ℕ) (x : Vertex)
   pub forks : forks_in w.flight ≡ forks_in v.flight
   pub done : w.done ≡ v.done
   pub fresh : w.fresh ≡ v.fresh
+  pub starts : w.starts ≡ v.starts
   pub spawns : w.spawns ≡ v.spawns
   pub own : OwnOk p a.trees w
   pub running : RunsOk p a.trees a.pairs (put a.vertices i x) w.running
@@ -70,6 +71,12 @@ pub record Stored (p : PlanView) (a : Dag) (v w : View) (d i : ℕ) (x : Vertex)
   pub full_grows : w.full_grows ≡ v.full_grows
   pub sprout : w.sprout ≡ v.sprout
   pub tops : i ≢ 1 → Tops p a.trees x.finish (a.pairs x.pair)
+
+before_start : (s : ℕ) → s < 3 → started s ≡ 0
+before_start zero l = refl
+before_start (suc zero) l = refl
+before_start (suc (suc zero)) l = refl
+before_start (suc (suc (suc s))) l = absurd (omega arith)
 
 -- a vertex that is written isn't one that a share runs
 pub runs_beside : (p : PlanView) (t : Trees) (pairs : ℕ → Pair) (vertices : ℕ → Vertex) (i : ℕ) (x : Vertex) → (vertices i).state < 3
@@ -236,6 +243,8 @@ module _ {B : Type 0} (p : PlanView) (a : Dag) (homes : List (maybe.Option (Opti
         (λ j u n e k. others_fly j u n e k);
     moves = moves';
     marks = marks_kept p.moves a.drawn vs id v w at step.draws step.seats step.spare rule.marks;
+    starts = starts_put p.moves a.vertices vs id v w at i x step.low (let s = step.starts in let z : started (a.vertices i).state ≡ 0 = ap started zero_before in
+        let y = before_start x.state step.not_started in omega arith) (λ z. step.starts ∙ rule.starts.spent id v at (sym step.seats ∙ z)) rule.starts;
     runs = record {
       one = λ k l. let t = total_set (λ (u : View). runs_it k u.running) vs id v w at in let f = step.runs_less k in let b = rule.runs.one k l in
           put_case (λ (z : Vertex). runners after k ≤ started z.state) a.vertices i x k

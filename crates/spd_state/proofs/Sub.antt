@@ -29,7 +29,7 @@ use Rattle.spd_state.proofs.Rights.{unit_opens, unit_counts}
 use Rattle.spd_state.specs.Tree.{TreeOk, no_node}
 use Rattle.spd_state.specs.Dag.{halves, half_of, aboves, above_of, claimed_units, claimed_above}
 use Rattle.spd_state.specs.Parts.{GrowsOk}
-use Rattle.spd_state.proofs.Frames.{bare_kept, growth_view, lives_alike}
+use Rattle.spd_state.proofs.Frames.{bare_kept, growth_view, lives_alike, starts_kept}
 
 module _ {B : Type 0} (p : PlanView) (a : Dag) (homes : List (maybe.Option (Option B))) (vs : List View) (rule : Rule p a homes vs) where
   -- where the waiting vertex of a root isn't stored yet, a unit there is the flight's own: it stands in its list, or is a handle
@@ -246,6 +246,7 @@ module _ {B : Type 0} (p : PlanView) (a : Dag) (homes : List (maybe.Option (Opti
           (flies v.flight (rule.flying id v at)) rule.flying (λ j u _ _ k. flies u.flight k);
       moves = moves';
       marks = marks_kept p.moves a.drawn vs id v w at refl refl refl rule.marks;
+      starts = starts_kept p.moves a.vertices vs id v w at refl refl rule.starts;
       runs = runs_kept p.moves a.vertices (runners vs) (runners after)
           (λ x. total_kept (λ (u : View). runs_it x u.running) vs id v w at refl) rule.runs;
       live = record {

@@ -158,3 +158,19 @@ gate_le (suc k) n = omega arith
 pub total_none : {A : Type 0} (f : A → ℕ) (l : List A) → Each (λ a. f a ≡ 0) l → total f l ≡ 0
 total_none f [] h = refl
 total_none f (x ∷ xs) h = let a = h 0 x refl in let b = total_none f xs (λ j y e. h (suc j) y e) in omega arith
+
+-- where one entry alone has a part, the total is that part
+pub total_only : {A : Type 0} (f : A → ℕ) (l : List A) (i : ℕ) (a : A) → get_elem? l i ≡ some a
+    → ((j : ℕ) (b : A) → j ≢ i → get_elem? l j ≡ some b → f b ≡ 0) → total f l ≡ f a
+total_only f [] i a e h = absurd (some-ne-none a (sym e))
+total_only f (x ∷ xs) zero a e h = let s : f x ≡ f a = ap f (some-injective x a e) in
+    let t = total_none f xs (λ j b q. h (suc j) b (λ (z : suc j ≡ 0). absurd (omega arith)) q) in omega arith
+total_only f (x ∷ xs) (suc i) a e h = let s : f x ≡ 0 = h 0 x (λ (z : 0 ≡ suc i). absurd (omega arith)) refl in
+    let t = total_only f xs i a e (λ j b n q. h (suc j) b (λ z. n (omega arith)) q) in omega arith
+
+-- the sum of a function that is 1 below k and 0 from there on
+pub sum_first : (n k : ℕ) (f : ℕ → ℕ) → k ≤ n → ((j : ℕ) → j < k → f j ≡ 1) → ((j : ℕ) → k ≤ j → j < n → f j ≡ 0) → sum_below n f ≡ k
+sum_first zero k f l ones zeros = omega arith
+sum_first (suc n) k f l ones zeros = dite (dec_lt n k)
+    (λ here. let o = ones n here in let t = sum_first n n f (omega arith) (λ j b. ones j (omega arith)) (λ j b c. absurd (omega arith)) in omega arith)
+    (λ past. let z = zeros n (omega arith) (omega arith) in let t = sum_first n k f (omega arith) ones (λ j b c. zeros j b (omega arith)) in omega arith)

@@ -19,7 +19,7 @@ use Rattle.spd_state.specs.declared.view.Flight.{Flight}
 use Rattle.spd_state.specs.declared.view.View.{View}
 use Rattle.spd_state.proofs.Sums.{same_self, same_else, put_case, put_kept, sum_put, total_set, total_kept, total_has, each_set}
 use Rattle.spd_state.proofs.Sums.{each_kept}
-use Rattle.spd_state.proofs.Frames.{moves_kept, live_kept, counts_kept, slots_kept, marks_kept, bare_kept, growth_view}
+use Rattle.spd_state.proofs.Frames.{moves_kept, live_kept, counts_kept, slots_kept, marks_kept, bare_kept, growth_view, starts_put}
 use Rattle.spd_state.proofs.Makers.{maker_alike}
 use Rattle.spd_state.proofs.Past.{past_vertex}
 use Rattle.spd_state.proofs.Rights.{count_le}
@@ -206,6 +206,8 @@ module _ {B : Type 0} (p : PlanView) (a : Dag) (homes : List (maybe.Option (Opti
         (flies v.flight (rule.flying id v at)) rule.flying (λ j u _ _ k. flies u.flight k);
     moves = moves';
     marks = marks_kept p.moves a.drawn vs id v w at refl refl refl rule.marks;
+    starts = starts_put p.moves a.vertices vs id v w at i (wake_word x) inside (let z : started x.state ≡ 0 = ap started waiting in
+        let y : started (x.state + 1) ≡ 0 = ap (λ k. started (k + 1)) waiting in omega arith) (rule.starts.spent id v at) rule.starts;
     runs = record {
       one = λ k l. let t = total_kept (λ (u : View). runs_it k u.running) vs id v w at refl in let b = rule.runs.one k l in
           put_case (λ (y : Vertex). runners after k ≤ started y.state) a.vertices i (wake_word x) k

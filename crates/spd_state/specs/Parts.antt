@@ -6,7 +6,7 @@ use lib.ListN.{get_elem?}
 use Rattle.atomic_table.specs.Seated.{TableId}
 use Rattle.spd_words.specs.Plan.{PlanView, IsPlan}
 use Rattle.spd_words.specs.Words.{Node, Pair, Vertex}
-use Rattle.spd_state.specs.Sums.{total, Each, count}
+use Rattle.spd_state.specs.Sums.{total, Each, count, sum_below}
 use Rattle.spd_state.specs.Tree.{Trees, Under, Forest, lives, NodeRule, no_node, Bare, TreeOk, GrowthRule}
 use Rattle.spd_state.specs.Dag.{halves, aboves, nursed, above_of, Dag, started, runners, flights, earlies, tellers, holders, units, rights}
 use Rattle.spd_state.specs.Dag.{openings}
@@ -41,6 +41,11 @@ pub record MarkRule (m drawn : ℕ) (vs : List View) : Type 0 where
   pub passed : Each (λ v. 0 < v.full_draws → m < drawn) vs
   pub by_seats : Each (λ v. v.full_draws ≤ v.seats) vs
   pub seats : total (λ v. v.seats + v.spare) vs ≤ 64
+
+-- The vertices that the shares started are those that are started. A share without a seat has started none.
+pub record StartRule (m : ℕ) (vertices : ℕ → Vertex) (vs : List View) : Type 0 where
+  pub all : total (λ (v : View). v.starts) vs ≡ sum_below (2 * m) (λ x. started (vertices x).state)
+  pub spent : Each (λ (v : View). v.seats ≡ 0 → v.starts ≡ 0) vs
 
 -- A running vertex is started, and no two shares run one vertex.
 pub record RunRule (m : ℕ) (vertices : ℕ → Vertex) (running : ℕ → ℕ) : Type 0 where
@@ -171,6 +176,7 @@ pub record Rule {B : Type 0} (p : PlanView) (a : Dag) (homes : List (maybe.Optio
   pub flying : Each (λ v. FlightsOk p a.trees a.drawn a.nodes a.pairs a.vertices v.flight) vs
   pub moves : MoveRule p.moves a.drawn a.nodes a.pairs a.vertices (flights vs)
   pub marks : MarkRule p.moves a.drawn vs
+  pub starts : StartRule p.moves a.vertices vs
   pub runs : RunRule p.moves a.vertices (runners vs)
   pub live : LiveRule p a.trees (openings a.vertices vs) (units p a vs) a.vertices
   pub counts : NodeRule p.moves p.grown a.nodes (units p a vs) (halves vs)

@@ -120,7 +120,7 @@ abbrev pub awaited_in : Option Meaning → Option Expected
 awaited_in None = None
 awaited_in (Some m) = expected_in m.awaited
 
--- the share runs the vertex i, whose body means m
+-- the share runs the vertex i, whose body means m, and has one start more
 abbrev pub start_view : ℕ → Vertex → Option Meaning → View → View
 start_view i x m v = record v {
   running = Some (start_run i x);
@@ -131,6 +131,7 @@ start_view i x m v = record v {
   kind = kind_in m v.kind;
   awaited = awaited_in m;
   seen = None;
+  starts = v.starts + 1;
   steps = v.steps + 1;
 }
 

@@ -83,6 +83,8 @@ pub struct View {
     pub spawns: u64,
     /// The vertices that it made ready.
     pub ready: u64,
+    /// The vertices that it started, and those of the shares that were joined into it.
+    pub starts: u64,
 
     /// 1 while the share runs a wild body: then no condition of the books is asked.
     pub wild: u64,
