@@ -65,6 +65,8 @@ module _ {B : Type 0} (z z' : TableId) (same : z' ≡ z) (me me' : Me (Option B)
     told = h.told;
     spare = h.spare;
     marked = h.marked;
+    starts = h.starts;
+    begun = h.begun;
     inside = λ r is. absurd (cc);
     flies = h.flies;
     few = h.few;

@@ -59,7 +59,7 @@ pub vertex_reads : (p : PlanView) (a : Dag) (ws : List ℕ) → IsWritten p a ws
 vertex_reads p a ws w v low = let x : Vertex = a.vertices v in ap vertex_of (w.vertices v low) ∙ vertex_read x (w.vertices_fit v low)
 
 -- a vertex of a drawn move is the left or the right one
-halves_of : (v : ℕ) → (v ≡ 2 * (v / 2)) ⊎ (v ≡ 2 * (v / 2) + 1)
+pub halves_of : (v : ℕ) → (v ≡ 2 * (v / 2)) ⊎ (v ≡ 2 * (v / 2) + 1)
 halves_of v = dite (ℕ_discrete (v % 2) 0) (λ e. inl (omega arith)) (λ e. inr (omega arith))
 
 module _ {B : Type 0} (p : PlanView) (a : Dag) (homes : List (maybe.Option (Option B))) (vs : List View) (rule : Rule p a homes vs)

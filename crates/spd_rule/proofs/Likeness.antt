@@ -1,5 +1,5 @@
 -- The numbers beside a seat stand after a step that leaves what they mirror, or gives a unit more.
-use Rattle.std.proofs.Common.{◌≡◌, ℕ, length, refl, sym, ap, ◌∙◌, subst, arith, Option, Some, None, Bool, true, false, cond}
+use Rattle.std.proofs.Common.{◌≡◌, ℕ, length, refl, min, sym, ap, ◌∙◌, subst, arith, Option, Some, None, Bool, true, false, cond}
 use Prim.Native.Nat.{zero, suc}
 use lib.Dec.{ltb}
 use Rattle.atomic_table.specs.Table.{Me}
@@ -27,35 +27,36 @@ pub record Mirrored (v w : View) : Type 0 where
   pub spare : w.spare ≡ v.spare
   pub full_draws : w.full_draws ≡ v.full_draws
   pub seats : w.seats ≡ v.seats
+  pub starts : w.starts ≡ v.starts
   pub slots : w.slots ≡ v.slots
 
 module _ (v : View) where
   pub same_steps : Mirrored v (stepped v)
-  same_steps = record { running = refl; flight = refl; held = refl; claimed = refl; told = refl; spare = refl; full_draws = refl; seats = refl; slots = refl }
+  same_steps = record { running = refl; flight = refl; held = refl; claimed = refl; told = refl; spare = refl; full_draws = refl; seats = refl; starts = refl; slots = refl }
 
   pub see_mirrored : (i : ℕ) (x : Vertex) (b : Bool) → Mirrored v (cond b (note_ready i x v) (stepped v))
   see_mirrored i x false = same_steps
   see_mirrored i x true =
-      record { running = refl; flight = refl; held = refl; claimed = refl; told = refl; spare = refl; full_draws = refl; seats = refl; slots = refl }
+      record { running = refl; flight = refl; held = refl; claimed = refl; told = refl; spare = refl; full_draws = refl; seats = refl; starts = refl; slots = refl }
 
   pub lower_mirrored : (c left : ℕ) → Mirrored v (lower_view c left v)
   lower_mirrored zero left =
-      record { running = refl; flight = refl; held = refl; claimed = refl; told = refl; spare = refl; full_draws = refl; seats = refl; slots = refl }
+      record { running = refl; flight = refl; held = refl; claimed = refl; told = refl; spare = refl; full_draws = refl; seats = refl; starts = refl; slots = refl }
   lower_mirrored (suc c) left =
-      record { running = refl; flight = refl; held = refl; claimed = refl; told = refl; spare = refl; full_draws = refl; seats = refl; slots = refl }
+      record { running = refl; flight = refl; held = refl; claimed = refl; told = refl; spare = refl; full_draws = refl; seats = refl; starts = refl; slots = refl }
 
   pub shown_mirrored : (n : ℕ) (b : Bool) → Mirrored v (cond b (shown_view n v) (stepped v))
   shown_mirrored n false = same_steps
   shown_mirrored n true =
-      record { running = refl; flight = refl; held = refl; claimed = refl; told = refl; spare = refl; full_draws = refl; seats = refl; slots = refl }
+      record { running = refl; flight = refl; held = refl; claimed = refl; told = refl; spare = refl; full_draws = refl; seats = refl; starts = refl; slots = refl }
 
   pub collected_mirrored : (o : Option Expected) (n : ℕ) (b : Bool) → Mirrored v (cond b (collected_view o n v) (stepped v))
   collected_mirrored o n false = same_steps
   collected_mirrored None n true = same_steps
   collected_mirrored (Some x) zero true =
-      record { running = refl; flight = refl; held = refl; claimed = refl; told = refl; spare = refl; full_draws = refl; seats = refl; slots = refl }
+      record { running = refl; flight = refl; held = refl; claimed = refl; told = refl; spare = refl; full_draws = refl; seats = refl; starts = refl; slots = refl }
   collected_mirrored (Some x) (suc c) true =
-      record { running = refl; flight = refl; held = refl; claimed = refl; told = refl; spare = refl; full_draws = refl; seats = refl; slots = refl }
+      record { running = refl; flight = refl; held = refl; claimed = refl; told = refl; spare = refl; full_draws = refl; seats = refl; starts = refl; slots = refl }
 
 module _ {B : Type 0} (z z' : TableId) (same : z' ≡ z) (me me' : Me (Option B) View) (b : Beside) (h : Mirrors z me b)
     (is_due : me.0.slots ≡ due me.0.flight me.0.running) (w : View) (e : me' ≡ (w, me.1)) where
@@ -69,6 +70,8 @@ module _ {B : Type 0} (z z' : TableId) (same : z' ≡ z) (me me' : Me (Option B)
       told = h.told ∙ sym (ap length k.told);
       spare = h.spare ∙ sym k.spare;
       marked = h.marked ∙ sym (ap (ltb 0) k.full_draws);
+      starts = h.starts ∙ sym (ap (λ n. min n 18446744073709551615) k.starts);
+      begun = let a = k.starts in let s = k.seats in let b = h.begun in omega arith;
       inside = h.inside;
       flies = h.flies;
       few = h.few;
@@ -95,6 +98,8 @@ module _ {B : Type 0} (z z' : TableId) (same : z' ≡ z) (me me' : Me (Option B)
     told = k.told ∙ h.told;
     spare = k.spare ∙ h.spare;
     marked = k.full ∙ h.marked;
+    starts = k.starts ∙ h.starts;
+    begun = h.begun;
     inside = λ r is. h.inside r (sym k.running ∙ is);
     flies = λ f is. h.flies f (sym k.flight ∙ is);
     few = let t = k.told in let f = h.few in omega arith;

@@ -13,7 +13,7 @@ use Rattle.spd_words.specs.Words.{Node, Pair}
 use Rattle.spd_state.specs.Sums.{count, without}
 use Rattle.spd_state.specs.Dag.{claimed_at}
 use Rattle.spd_state.specs.Parts.{IsWithin}
-use Rattle.spd_state.specs.Steps.{lose_view, tell_if, keep_if, is_over, settle_view, sub_after}
+use Rattle.spd_state.specs.Steps.{lose_right, claim_after, lose_view, tell_if, keep_if, is_over, settle_view, sub_after}
 use Rattle.spd_state.specs.declared.view.Running.{Running}
 use Rattle.spd_state.specs.declared.view.View.{View}
 use Rattle.spd_state.proofs.Settle.{count_without, length_without}
@@ -21,7 +21,7 @@ use Rattle.spd_rule.proofs.Counts.{count_few}
 use Rattle.spd_rule.specs.Rest.{due}
 use Rattle.spd_rule.specs.Beside.{Mirrors}
 use Rattle.spd_rule.specs.Idle.{DepartsFrom, PairsUnits, flight_at, flies_spawn, is_spawn}
-use Rattle.spd_rule.specs.Moves.{MaySetPair, HandsRoot, HandsTwo, pair_set, flight_with}
+use Rattle.spd_rule.specs.Moves.{MaySetRoot, MaySetPair, HandsRoot, HandsTwo, root_set, draw_in, pair_set, flight_with}
 use Rattle.spd_rule.specs.Steps.{DrawsMove, drawn_flight, drawn_known}
 use Rattle.spd_state.specs.Stages.{handed_view, flight_finish, finish_in, first_slot, second_slot}
 use Rattle.spd_state.specs.declared.view.Draw.{Draw}
@@ -33,6 +33,31 @@ pub kept_inside : (z : TableId) (b : Bool) (o : Option Running) → ((r : Runnin
     → IsWithin z r × (r.side < 2)
 kept_inside z true o h r e = h r e
 kept_inside z false o h r e = absurd (cc)
+
+pub within_lost : (z : TableId) (o : Option Running) → ((r : Running) → o ≡ Some r → IsWithin z r × (r.side < 2)) → (r : Running) → lose_right o ≡ Some r
+    → IsWithin z r × (r.side < 2)
+within_lost z None h r e = absurd (cc)
+within_lost z (Some q) h r e = let i : record q { right = 0 } ≡ r = cc in subst (λ (x : Running). IsWithin z x × (x.side < 2)) i (h q refl)
+
+-- a claim
+pub mirrors_claim : {B : Type 0} (z : TableId) (me : Me (Option B) View) (b : Beside) → Mirrors z me b → (q : Pair)
+    → Mirrors z (claim_after q me.0, me.1) (record b { running = lose_right b.running; claimed = 1 })
+mirrors_claim z me b h q = record {
+  running = ap lose_right h.running;
+  flight = h.flight;
+  units = h.units;
+  claimed = refl;
+  told = h.told;
+  spare = h.spare;
+  marked = h.marked;
+  starts = h.starts;
+  begun = h.begun;
+  inside = within_lost z b.running h.inside;
+  flies = h.flies;
+  few = h.few;
+  seated = h.seated;
+  slots = h.slots;
+}
 
 told_more : (b : Bool) (d : ℕ) (l : List ℕ) → length (tell_if b d l) ≡ length l + cond b 1 0
 told_more true d l = omega arith
@@ -67,6 +92,8 @@ module _ {B : Type 0} (z : TableId) (me : Me (Option B) View) (b b' : Beside) (h
         told = told;
         spare = k.spare ∙ h.spare;
         marked = k.full ∙ h.marked;
+        starts = k.starts ∙ h.starts;
+        begun = h.begun;
         inside = λ r e. kept_inside z over b.running h.inside r (sym run ∙ e);
         flies = λ f e. h.flies f (sym k.flight ∙ e);
         few = let t = told in omega arith;
@@ -121,6 +148,8 @@ mirrors_draw {B} p z me me' b b' draw told n h size k drawn full = dite (dec_lt 
       told = h.told;
       spare = h.spare;
       marked = h.marked;
+      starts = h.starts;
+      begun = h.begun;
       inside = h.inside;
       flies = λ f e. let i : drawn_flight draw n b.running ≡ f = cc in let j : (drawn_flight draw n b.running).number ≡ f.number = ap
           (λ (g : Flight). g.number) i in let m = flight_number draw n b.running in omega arith;
@@ -137,6 +166,8 @@ mirrors_draw {B} p z me me' b b' draw told n h size k drawn full = dite (dec_lt 
       told = h.told;
       spare = h.spare;
       marked = sym (lt-ltb 0 (me.0.full_draws + 1) (omega arith));
+      starts = h.starts;
+      begun = h.begun;
       inside = h.inside;
       flies = h.flies;
       few = h.few;
@@ -157,6 +188,29 @@ flies_at z stage None h f e = absurd (cc)
 flies_at z stage (Some g) h f e = let i : (record g { stage = stage }) ≡ f = cc in let n : g.number ≡ f.number = ap (λ (x : Flight). x.number) i in
     let l = h g refl in omega arith
 
+module _ {B : Type 0} (z : TableId) (me : Me (Option B) View) (b : Beside) (h : Mirrors z me b) (d : ℕ) (told : Meaning) (may : MaySetRoot d told me.0) where
+  pub mirrors_root : Mirrors z (root_set d told me.0, me.1) (record b { flight = flight_at 1 b.flight })
+  mirrors_root = record {
+    running = h.running;
+    flight = ap (flight_at 1) (h.flight ∙ may.flies) ∙ ap (λ (o : Option Flight). Some (flight_with (draw_in o) d d 1)) (sym may.flies);
+    units = h.units;
+    claimed = h.claimed;
+    told = h.told;
+    spare = h.spare;
+    marked = h.marked;
+    starts = h.starts;
+    begun = h.begun;
+    inside = h.inside;
+    flies = flies_at z 1 b.flight h.flies;
+    few = h.few;
+    seated = h.seated;
+    slots = h.slots;
+  }
+
+  pub root_due : me.0.slots ≡ due me.0.flight me.0.running → (root_set d told me.0).slots ≡ due (root_set d told me.0).flight me.0.running
+  root_due is = is ∙ ap (λ (o : Option Flight). due o me.0.running) may.flies
+      ∙ ap (λ (o : Option Flight). due (Some (flight_with (draw_in o) d d 1)) me.0.running) (sym may.flies)
+
 module _ {B : Type 0} (z : TableId) (me me' : Me (Option B) View) (b b' : Beside) (h : Mirrors z me b) (d : ℕ) (q : Pair) (left right : Meaning) where
   paired_root : HandsRoot d q me.0 → me' ≡ (pair_set me.0.flight q.second left right me.0, me.1)
       → (flies_spawn b.flight ≡ false → b' ≡ record b { flight = flight_at 2 b.flight }) → Mirrors z me' b'
@@ -171,6 +225,8 @@ module _ {B : Type 0} (z : TableId) (me me' : Me (Option B) View) (b b' : Beside
         told = h.told;
         spare = h.spare;
         marked = h.marked;
+        starts = h.starts;
+        begun = h.begun;
         inside = h.inside;
         flies = flies_at z 2 b.flight h.flies;
         few = h.few;
@@ -200,6 +256,8 @@ module _ {B : Type 0} (z : TableId) (me me' : Me (Option B) View) (b b' : Beside
         told = t.told ∙ h.told;
         spare = t.spare ∙ h.spare;
         marked = t.full ∙ h.marked;
+        starts = t.starts ∙ h.starts;
+        begun = h.begun;
         inside = λ r i. h.inside r (sym t.running ∙ i);
         flies = λ f i. flies_at z 2 b.flight h.flies f (sym t.flight ∙ i);
         few = let l = h.few in let m = t.told in omega arith;

@@ -19,6 +19,8 @@ use Rattle.spd_state.specs.Shown.{ShownOk}
 use Rattle.spd_state.specs.declared.view.View.{View}
 use Rattle.spd_state.proofs.Loads.{load_keeps}
 use Rattle.spd_state.proofs.Start.{start_keeps}
+use Rattle.spd_state.proofs.Bounds.{starts_few}
+use Rattle.spd_state.proofs.Settle.{there_set}
 use mathlib.Core.Option.{none}
 use Rattle.spd_debts.specs.BookRule.{BookRule}
 use Rattle.spd_debts.proofs.Bookkeeping.{load_stands}
@@ -154,6 +156,8 @@ module _ {B : Type 0} (told_of : B → BodyView) (p : PlanView) (slots id : ℕ)
               other = slot.3;
               inside = subst
                   (λ (y : Vertex). IsInside p (start_run i y)) read here;
+              few = starts_few p (record a { vertices = put a.vertices i (start_word x) }) (set homes i none) (set vs id (start_view i x m me.0)) kept id
+                  (start_view i x m me.0) (there_set vs id me.0 (start_view i x m me.0) from.at);
             }),
             (λ miss. absurd (miss hit)),
             λ _. started_fit a homes vs from i low two slot.0 slot.1 (start_view i x m me.0),

@@ -107,6 +107,8 @@ mirrors_wake z me b b' h f has k = let left : List ℕ = without f me.0.told in 
       told = told;
       spare = k.spare ∙ h.spare;
       marked = k.full ∙ h.marked;
+      starts = k.starts ∙ h.starts;
+      begun = h.begun;
       inside = λ r e. kept_inside z over b.running h.inside r (sym run ∙ e);
       flies = λ g e. h.flies g (sym k.flight ∙ e);
       few = let l = h.few in let t = k.told in omega arith;

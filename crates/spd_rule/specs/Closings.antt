@@ -3,6 +3,8 @@ use Rattle.std.specs.Prelude.{◌≡◌, ◌≢◌, ◌+◌, ◌*◌, ◌<◌, �
 use Rattle.std.specs.Mem.Slots.{slots_items}
 use Rattle.spd_words.specs.Plan.{PlanView, vertex_place, fault_place}
 use Rattle.spd_words.specs.Words.{vertex_of}
+use Rattle.spd_state.specs.Sums.{sum_below}
+use Rattle.spd_state.specs.Dag.{started}
 use Rattle.spd_state.specs.declared.promise.Whole.{Whole}
 use Rattle.spd_state.specs.declared.view.View.{View}
 use Rattle.spd_rule.specs.Consequences.{EndsAllStarted}
@@ -37,6 +39,19 @@ EveryStarted p words = (v : ℕ) → v < 2 * drawn_moves p words → (vertex_of 
 -- A share that has the mark of the end closes a field whose vertices were all started.
 abbrev pub ClosesStarted : {B : Type 0} → View → Closed B → Type 0
 ClosesStarted v closed = 0 < v.done → EveryStarted closed.plan (slots_items closed.table.words)
+
+-- how many vertices are started
+abbrev pub started_vertices : PlanView → List ℕ → ℕ
+started_vertices p words = sum_below (2 * p.moves) (λ v. started (vertex_of (slice_index words (vertex_place p v))).state)
+
+-- So many starts are all that there were, by the words; at the end there were two for each drawn move.
+pub record AreAllStarts (p : PlanView) (words : List ℕ) (starts done : ℕ) : Type 0 where
+  pub all : starts ≡ started_vertices p words
+  pub ended : 0 < done → starts ≡ 2 * drawn_moves p words
+
+-- The starts of the share, its own and those of all that were joined into it, are the vertices that are started.
+abbrev pub ClosesStarts : {B : Type 0} → View → Closed B → Type 0
+ClosesStarts v closed = AreAllStarts closed.plan (slots_items closed.table.words) v.starts v.done
 
 -- Where it carries a tame make, and the least code of finish 0 isn't 0, the drawn moves are those that were promised and the make's own, as
 -- far as the plan has so many.

@@ -1,7 +1,8 @@
 -- How the numbers beside a seat change.
 use Rattle.std.specs.Prelude.{◌≡◌, ◌+◌, ◌<◌, ℕ, List, [], Option, Some, None, Bool, true, false, length, cond, not}
 use Rattle.spd_state.specs.Sums.{same, count}
-use Rattle.spd_state.specs.Steps.{keep_if, is_over}
+use Rattle.spd_words.specs.Words.{vertex_of}
+use Rattle.spd_state.specs.Steps.{keep_if, is_over, start_run}
 use Rattle.spd_state.specs.declared.view.Running.{Running}
 use Rattle.spd_state.specs.declared.view.Flight.{Flight}
 use Rattle.spd_state.specs.declared.view.Draw.{Draw}
@@ -19,6 +20,7 @@ pub record IsNewBeside (b : Beside) (spare : ℕ) : Type 0 where
   pub told : b.told ≡ 0
   pub spares : b.spare ≡ spare
   pub full : b.full ≡ false
+  pub starts : b.starts ≡ 0
 
 -- One d less stands in the list, in whatever order.
 abbrev pub TakesUnit : ℕ → List ℕ → List ℕ → Type 0
@@ -32,6 +34,7 @@ pub record HoldsOneMore (d : ℕ) (old new : Beside) : Type 0 where
   pub told : new.told ≡ old.told
   pub spare : new.spare ≡ old.spare
   pub full : new.full ≡ old.full
+  pub starts : new.starts ≡ old.starts
 
 -- For all lists with so many claimed units and told finishes: nothing, where such a share's vertex is over.
 abbrev pub IsSettled : Option Running → Option Flight → ℕ → ℕ → Option Running → Type 0
@@ -46,6 +49,7 @@ pub record DepartsFrom (d : ℕ) (last : Bool) (old new : Beside) : Type 0 where
   pub flight : new.flight ≡ old.flight
   pub spare : new.spare ≡ old.spare
   pub full : new.full ≡ old.full
+  pub starts : new.starts ≡ old.starts
 
 -- A finish is told no more.
 pub record WakesBeside (old new : Beside) : Type 0 where
@@ -56,6 +60,11 @@ pub record WakesBeside (old new : Beside) : Type 0 where
   pub flight : new.flight ≡ old.flight
   pub spare : new.spare ≡ old.spare
   pub full : new.full ≡ old.full
+  pub starts : new.starts ≡ old.starts
+
+-- The vertex i runs, whose word was seen.
+abbrev pub StartsBeside : ℕ → ℕ → Beside → Beside → Type 0
+StartsBeside i seen old new = new ≡ record old { running = Some (start_run i (vertex_of seen)); starts = old.starts + 1 }
 
 -- the move in flight at this stage
 abbrev pub flight_at : ℕ → Option Flight → Option Flight
@@ -85,6 +94,7 @@ pub record PairsUnits (second : ℕ) (old new : Beside) : Type 0 where
   pub told : new.told ≡ old.told
   pub spare : new.spare ≡ old.spare
   pub full : new.full ≡ old.full
+  pub starts : new.starts ≡ old.starts
 
 abbrev pub StoresFirst : Flight → Beside → Beside → Type 0
 StoresFirst f old new = new ≡ record old {

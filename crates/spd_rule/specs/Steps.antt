@@ -1,5 +1,5 @@
 -- When a share may take a step, and what a step tells beside the view after it.
-use Rattle.std.specs.Prelude.{◌≡◌, ◌≢◌, ◌⊎◌, ◌+◌, ◌<◌, ◌≤◌, ◌∷◌, ℕ, Option, Some, None}
+use Rattle.std.specs.Prelude.{◌≡◌, ◌≢◌, ◌⊎◌, ◌+◌, ◌*◌, ◌<◌, ◌≤◌, ◌∷◌, ℕ, Option, Some, None}
 use mathlib.Core.Option.{some}
 use lib.ListN.{get_elem?}
 use Rattle.atomic_table.specs.Table.{Me}
@@ -128,7 +128,7 @@ meaning_in means None = None
 meaning_in means (Some b) = Some (means b)
 
 -- The share runs the vertex i, whose word was seen: it has taken the slot, and knows what its body means. Vertex 1 has
--- no body.
+-- no body. No share has more starts than there are vertices.
 pub record StartsVertex {B : Type 0} (means : B → Meaning) (p : PlanView) (i seen : ℕ)
     (me me' : Me (Option B) View) : Type 0 where
   pub body : Option B
@@ -136,6 +136,7 @@ pub record StartsVertex {B : Type 0} (means : B → Meaning) (p : PlanView) (i s
   pub end : i ≡ 1 → body ≡ None
   pub other : i ≢ 1 → (b : B) × (body ≡ Some b)
   pub inside : IsInside p (start_run i (vertex_of seen))
+  pub few : me'.0.starts ≤ 2 * p.moves
 
 -- ---- `see_moves`, `see_vertex` and `wake_vertex`
 

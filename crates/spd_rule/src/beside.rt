@@ -8,7 +8,7 @@ ghost use Rattle.spd_rule.specs.Steps.{drawn_flight};
 ghost use Rattle.spd_state.specs.declared.view.Flight.{Flight};
 ghost use Rattle.spd_rule.specs.Moves.{after_first, less_first};
 ghost use Rattle.spd_rule.specs.Rest.{due, due_at};
-ghost use Rattle.spd_rule.specs.Idle.{IsNewBeside, StoresFirst, StoresLast, flight_at, flies_spawn, PairsRoot, PairsUnits, DrawsBeside, HoldsOneMore, DepartsFrom, WakesBeside, TakesUnit, IsSettled};
+ghost use Rattle.spd_rule.specs.Idle.{IsNewBeside, StoresFirst, StoresLast, flight_at, flies_spawn, PairsRoot, PairsUnits, DrawsBeside, HoldsOneMore, DepartsFrom, WakesBeside, StartsBeside, TakesUnit, IsSettled};
 
 use arrayvec::ArrayVec;
 use spd_state::{Draw, Flight, Running};
@@ -18,7 +18,8 @@ use spd_words::VertexWord;
 pub(crate) const MOST_UNITS: usize = 66;
 
 /// What a share's view says of the running vertex, of the move in flight and of the units that it
-/// holds, and how many units it has claimed, finishes it is told, and spare seats it has.
+/// holds, and how many units it has claimed, finishes it is told, spare seats it has, and vertices it
+/// has started.
 #[derive(Drop)]
 pub(crate) struct Beside {
     pub running: Option<Running>,
@@ -29,6 +30,7 @@ pub(crate) struct Beside {
     pub spare: u32,
     /// It has seen the moves full.
     pub full: bool,
+    pub starts: u64,
 }
 
 impl Beside {
@@ -44,6 +46,7 @@ impl Beside {
             told: 0,
             spare,
             full: false,
+            starts: 0,
         }
     }
 
@@ -134,11 +137,13 @@ impl Beside {
         }
     }
 
-    /// The vertex v runs, whose word was seen ready.
+    /// The vertex v runs, whose word was seen ready: one start more.
     pub fn start(&mut self, v: u32, seen: u64)
-        ensures { self.new ≡ record self.old { running = Some (start_run v (vertex_of seen)) } }
+        requires few { self.old.starts < 18446744073709551615 }
+        ensures { StartsBeside v seen self.old self.new }
     {
         self.running = Some(running_of(v, seen));
+        self.starts += 1;
     }
 
     /// A unit at d is held.

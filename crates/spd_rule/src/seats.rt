@@ -4,7 +4,7 @@ ghost use Rattle.std.specs.Prelude.{◌≡◌, ◌≢◌, ◌+◌, ◌<◌, ℕ,
 ghost use Rattle.spd_state.specs.Seats.{kept_view, given_view, joined_view, spent_view, IsEmpty};
 ghost use Rattle.spd_rule.specs.Steps.{vertex_in, joined_known};
 ghost use Rattle.spd_rule.specs.Shares.{IsOf, IsSame, share_view, IsTraded, share_bodies, share_known, field_plan};
-ghost use Rattle.spd_rule.specs.Closings.{IsClosedBy, ClosesAllStarted, ClosesStarted, ClosesMoves, closed_plan};
+ghost use Rattle.spd_rule.specs.Closings.{IsClosedBy, ClosesAllStarted, ClosesStarted, ClosesMoves, ClosesStarts, closed_plan};
 
 use crate::beside::Beside;
 use crate::closed::Closed;
@@ -72,6 +72,7 @@ impl<B: Body> Field<B> {
     /// seats and spare seats. Where vertex 1 was woken, every other vertex of a drawn move is started, and
     /// every root is 0. Where the share has the mark of the end, all of them are started; and where it
     /// carries a tame make, and the code of finish 0 isn't 0, the drawn moves are as many as were promised.
+    /// The share's starts are the vertices that are started.
     pub fn close(self, share: Share<B>) -> Closed<B>
         requires of { IsOf self share }
         requires all { (share_view share).seats + (share_view share).spare ≡ 64 }
@@ -80,6 +81,7 @@ impl<B: Body> Field<B> {
         ensures ended { ClosesAllStarted result }
         ensures started { ClosesStarted (share_view share) result }
         ensures moves { ClosesMoves (share_view share) result }
+        ensures starts { ClosesStarts (share_view share) result }
     {
         let Field { table, plan } = self;
         let Share { seat, beside } = share;
@@ -87,7 +89,7 @@ impl<B: Body> Field<B> {
         Closed::of(table.close_with(seat), plan)
     }
 
-    /// The other share's seats, spare seats and draws go to this one. It takes a load of word 0.
+    /// The other share's seats, spare seats, draws and starts go to this one. It takes a load of word 0.
     pub fn join(&self, share: &mut Share<B>, other: Share<B>)
         requires of { IsOf self.now share.old }
         requires other { IsOf self.now other }
@@ -102,6 +104,7 @@ impl<B: Body> Field<B> {
             .join_seat::<JoinViews>(&mut share.seat, seat);
         share.beside.spare += beside.spare;
         share.beside.full = share.beside.full || beside.full;
+        share.beside.starts = share.beside.starts.saturating_add(beside.starts);
         drop(beside);
     }
 }
@@ -122,5 +125,13 @@ impl<B> Share<B> {
         ensures { result ≡ (share_view self.now).spare }
     {
         self.beside.spare
+    }
+
+    /// How many vertices the share has started, by itself or by the shares that were joined into it. It is
+    /// told of a share with 64 seats at most, as all shares of a field have together.
+    pub fn starts(&self) -> u64
+        ensures { (share_view self.now).seats < 65 → result ≡ (share_view self.now).starts }
+    {
+        self.beside.starts
     }
 }

@@ -71,7 +71,8 @@ pub fn sub_root<B: Body>(field: &Field<B>, share: &mut Share<B>, d: u32) -> u64
 }
 
 /// Exchanges the word of the vertex v from `seen`, which is ready, to started. `Ok` comes exactly where
-/// the word was as it was seen: the share runs the vertex, and holds its slot. `Err` has another word.
+/// the word was as it was seen: the share runs the vertex, holds its slot, and has one start more. `Err`
+/// has another word.
 /// The body in the slot may go on, and is tame where the share carries that books are kept.
 pub fn start_vertex<B: Body>(
     field: &Field<B>,

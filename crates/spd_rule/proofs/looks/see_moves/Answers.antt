@@ -11,7 +11,7 @@ load-requires-clause-allows g c κs within = let share = c.args.share.now in
 pub invariant_of-share : goal.invariant_of-share
 invariant_of-share g c = let share = c.args.share.now in let z = share.seat.table_id in let after = c.load.new.seat in
     let same : Mirrored share.seat.me.0 (sees_view share.seat.me.0) =
-    record { running = refl; flight = refl; held = refl; claimed = refl; told = refl; spare = refl; full_draws = refl; seats = refl; slots = refl } in record {
+    record { running = refl; flight = refl; held = refl; claimed = refl; told = refl; spare = refl; full_draws = refl; seats = refl; starts = refl; slots = refl } in record {
       mirrors = mirrors_like z after.table_id c.load.ensures.same.table share.seat.me after.me share.beside share.mirrors share.holds
           (sees_view share.seat.me.0) c.load.ensures.tells.0 same;
       holds = like_due z after.table_id c.load.ensures.same.table share.seat.me after.me share.beside share.mirrors share.holds

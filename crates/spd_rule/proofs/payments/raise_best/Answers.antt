@@ -17,7 +17,7 @@ raise-requires-clause-allows g c κs within = let share = c.args.share.now in le
 
 pub invariant_of-share : goal.invariant_of-share
 invariant_of-share g c = let share = c.args.share.now in let z = share.seat.table_id in let after = c.raise.new.seat in
-    let w : View = offer_view g.P.Told.told.promise.gift share.seat.me.0 in let same : Mirrored share.seat.me.0 w = record { running = refl; flight = refl; held = refl; claimed = refl; told = refl; spare = refl; full_draws = refl; seats = refl; slots = refl } in record {
+    let w : View = offer_view g.P.Told.told.promise.gift share.seat.me.0 in let same : Mirrored share.seat.me.0 w = record { running = refl; flight = refl; held = refl; claimed = refl; told = refl; spare = refl; full_draws = refl; seats = refl; starts = refl; slots = refl } in record {
       mirrors = mirrors_like z after.table_id c.raise.ensures.same.table share.seat.me after.me share.beside share.mirrors share.holds w c.raise.ensures.tells same;
       holds = like_due z after.table_id c.raise.ensures.same.table share.seat.me after.me share.beside share.mirrors share.holds w c.raise.ensures.tells same;
     }

@@ -26,9 +26,9 @@ invariant_of-share g c = let share = c.args.share.now in let field = c.args.fiel
     let deep : z.slots ≡ 2 * field.plan.moves = ap (λ (t : TableId). t.slots) c.requires.of ∙ field.deep in
     let wide : z.words ≡ plan_words field.plan = ap (λ (t : TableId). t.words) c.requires.of ∙ field.wide in record {
       mirrors = subst (λ (t : TableId). Mirrors t after c.start.new.self) (sym c.exchange-found.ensures.same.table)
-          (mirrors_start z share.seat.me after share.beside share.mirrors share.holds means field.plan deep wide c.args.v c.args.seen hit c.start.new.self
+          (mirrors_start z share.seat.me after share.beside share.mirrors share.holds means field.plan field.lawful deep wide c.args.v c.args.seen hit c.start.new.self
           c.start.ensures);
-      holds = start_due z share.seat.me after share.beside share.mirrors share.holds means field.plan deep wide c.args.v c.args.seen hit
+      holds = start_due z share.seat.me after share.beside share.mirrors share.holds means field.plan field.lawful deep wide c.args.v c.args.seen hit
           c.requires.may.running c.requires.may.flight;
     }
 

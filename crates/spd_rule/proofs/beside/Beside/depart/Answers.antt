@@ -13,6 +13,7 @@ returns c = let d : ℕ = c.args.d in let old = c.args.self.now.units in let new
   flight = refl;
   spare = refl;
   full = refl;
+  starts = refl;
 }
   where
     taken : (b : Bool) → c.take_unit-taken.result ≡ b → 0 < count c.args.d c.args.self.now.units.items

@@ -13,4 +13,5 @@ returns c = record {
   told = refl;
   spare = refl;
   full = refl;
+  starts = refl;
 }
