@@ -7,7 +7,7 @@ ghost use Rattle.spd_command.specs.Table.{is_option_word, operands_of, options_o
 ghost use Rattle.spd_command.specs.Lines.{passed_by, arguments_in};
 ghost use Rattle.spd_command.specs.Testing.{fits, fits_from, fits_behind, stand_once};
 
-use crate::argument::Argument;
+use crate::argument::{Argument, ValueKind};
 use crate::command_name::CommandName;
 
 /// What may stand next behind a command.
@@ -29,12 +29,22 @@ impl Next {
         match self.waiting {
             Some(option) => self.behind_value(option, word),
             None => match command.option_called(word.as_bytes()) {
-                Some(option) => Some(Next {
-                    waiting: Some(option),
-                    operands: self.operands,
-                }),
+                Some(option) => Some(self.behind_option(option)),
                 None => self.behind_operand(word),
             },
+        }
+    }
+
+    /// The same of an option's word: its value, unless it stands alone.
+    fn behind_option(self, option: Argument) -> Next
+    {
+        let waiting = match option.kind() {
+            ValueKind::Flag => None,
+            _ => Some(option),
+        };
+        Next {
+            waiting,
+            operands: self.operands,
         }
     }
 
