@@ -1,5 +1,5 @@
 -- What a command line asks for.
-use Rattle.std.specs.Prelude.{◌≡◌, ◌≤◌, true, is_some, ℕ, List, [], ◌∷◌, Option, None, option_map, option_and_then, unwrap_or}
+use Rattle.std.specs.Prelude.{◌≡◌, ◌≤◌, true, false, is_some, ℕ, List, [], ◌∷◌, Option, None, option_map, option_and_then, unwrap_or}
 use Rattle.std.specs.Option.{option_map_or}
 use Rattle.std.specs.Str.Parse.{digits_value}
 use Rattle.spd_words.specs.declared.scheme.Scheme.{Scheme}
@@ -17,13 +17,15 @@ use Rattle.spd_command.specs.Lines.{Passed, arguments_in, value_in}
 pub data Asked : Type 0 where
   elide : (program : List ℕ) → Asked
   check : (program : List ℕ) → Asked
+  make : (rows seed : ℕ) → Asked
   run : (program : List ℕ) (settings : Settings) → Asked
+  job : (rows seed : ℕ) (settings : Settings) → Asked
 
 -- an operand's value
 abbrev pub text_in : Argument → List Passed → List ℕ
 text_in argument all = unwrap_or (value_in argument all) []
 
--- an option's value, or what holds where it isn't given
+-- an argument's value, or what holds where it isn't given
 abbrev pub number_or : ℕ → Argument → List Passed → ℕ
 number_or standard argument all = option_map_or (digits_value 10) (value_in argument all) standard
 
@@ -32,7 +34,7 @@ scheme_or standard argument all = option_map_or scheme_called (value_in argument
 
 -- what holds where no option is given
 abbrev pub standard : Settings
-standard = record { workers = 4; moves = 16384; nodes = 16384; tree = ByTosses; grow = 32768; seed = 1 }
+standard = record { workers = 4; moves = 16384; nodes = 16384; tree = ByTosses; grow = 32768; seed = 1; counts = false }
 
 abbrev pub settings_in : List Passed → Settings
 settings_in all = record {
@@ -42,12 +44,15 @@ settings_in all = record {
   tree = scheme_or standard.tree argument.Tree all;
   grow = number_or standard.grow argument.Grow all;
   seed = number_or standard.seed argument.Seed all;
+  counts = is_some (value_in argument.Counts all);
 }
 
 abbrev pub asked_by : CommandName → List Passed → Asked
 asked_by name.Elide all = elide (text_in argument.Program all)
 asked_by name.Check all = check (text_in argument.Program all)
+asked_by name.Make all = make (number_or 0 argument.Rows all) (number_or 0 argument.FileSeed all)
 asked_by name.Run all = run (text_in argument.Program all) (settings_in all)
+asked_by name.Job all = job (number_or 0 argument.Rows all) (number_or 0 argument.FileSeed all) (settings_in all)
 
 -- what a list of words asks for; nothing where it is no command line
 abbrev pub asked_of : List (List ℕ) → Option Asked
@@ -57,7 +62,9 @@ asked_of (word ∷ words) = option_and_then (λ command. option_map (asked_by co
 abbrev pub name_of : Asked → CommandName
 name_of (elide program) = name.Elide
 name_of (check program) = name.Check
+name_of (make rows seed) = name.Make
 name_of (run program settings) = name.Run
+name_of (job rows seed settings) = name.Job
 
 -- the command of a command line
 abbrev pub name_in : List (List ℕ) → Option CommandName
@@ -70,9 +77,11 @@ pub record AreInRange (settings : Settings) : Type 0 where
   pub nodes : settings.nodes ≤ 262144
   pub grow : settings.grow ≤ 65536
 
--- A run's settings do.
+-- A run's settings do, and a made file's rows.
 abbrev pub KeepsRanges : Asked → Type 0
+KeepsRanges (make rows seed) = rows ≤ 1000000
 KeepsRanges (run program settings) = AreInRange settings
+KeepsRanges (job rows seed settings) = (rows ≤ 1000000) × AreInRange settings
 KeepsRanges _ = Unit {0}
 
 -- The words are this command with lawful words behind it.

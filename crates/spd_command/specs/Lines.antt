@@ -5,8 +5,8 @@ use Rattle.std.specs.List.{list_all}
 use Rattle.std.specs.Str.{bytes_eq}
 use Rattle.spd_command.specs.declared.argument.Argument.{Argument}
 use Rattle.spd_command.specs.declared.command_name.CommandName.{CommandName}
-use Rattle.spd_command.specs.Table.{argument_name, kind_of_value, operands_of, options_of, option_called}
-use Rattle.spd_command.specs.Values.{is_value}
+use Rattle.spd_command.specs.Table.{argument_name, kind_of_value, is_flag, operands_of, options_of, option_called}
+use Rattle.spd_command.specs.Values.{is_value, flag_value}
 
 -- an argument with the word that is its value
 pub record Passed : Type 0 where
@@ -21,18 +21,19 @@ abbrev pub operand_first : List Argument → List ℕ → (List Argument → Opt
 operand_first [] word rest = None
 operand_first (operand ∷ operands) word rest = passed_first operand word (rest operands)
 
--- The arguments that words give, in their order: behind a word that names an option stands its value, whatever that is, and
--- every other word is the next operand. Nothing where an operand or a value is missing, or a word is one too many.
+-- The arguments that words give, in their order: behind a word that names an option stands its value, whatever that is, unless
+-- it is a flag, and every other word is the next operand. Nothing where an operand or a value is missing, or a word is one too many.
 unfoldable pub passed_by : List Argument → List Argument → List (List ℕ) → Option (List Passed)
 passed_by [] options [] = Some []
 passed_by (operand ∷ operands) options [] = None
 passed_by operands options (word ∷ []) = elim (option_called options word) [
   | None ↦ operand_first operands word (λ others. passed_by others options [])
-  | Some option ↦ None
+  | Some option ↦ if is_flag option then passed_first option flag_value (passed_by operands options []) else None
 ]
 passed_by operands options (word ∷ value ∷ words) = elim (option_called options word) [
   | None ↦ operand_first operands word (λ others. passed_by others options (value ∷ words))
-  | Some option ↦ passed_first option value (passed_by operands options words)
+  | Some option ↦ if is_flag option then passed_first option flag_value (passed_by operands options (value ∷ words))
+      else passed_first option value (passed_by operands options words)
 ]
 
 abbrev pub passes : Argument → Passed → Bool

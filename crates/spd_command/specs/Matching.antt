@@ -1,17 +1,20 @@
 -- The `clap` command that is built for a command, as data.
-use Rattle.std.specs.Prelude.{List, Some, true, fold}
+use Rattle.std.specs.Prelude.{List, Some, true, fold, if◌then◌else◌}
 use Rattle.clap.specs.Words.{App, Rule, new_app, new_rule, with_rule}
 use Rattle.clap.specs.Simple.{on_top}
-use Rattle.clap.specs.declared.builder.action.ArgAction.TheVariants.{Set}
+use Rattle.clap.specs.declared.builder.action.ArgAction.TheVariants.{Set, SetTrue}
 use Rattle.spd_command.specs.declared.argument.Argument.{Argument}
 use Rattle.spd_command.specs.declared.command_name.CommandName.{CommandName}
-use Rattle.spd_command.specs.Table.{argument_name, command_word, operands_of, options_of}
+use Rattle.spd_command.specs.Table.{argument_name, is_flag, command_word, operands_of, options_of}
 
 abbrev pub operand_rule : Argument → Rule
 operand_rule operand = record (new_rule (argument_name operand)) { required = true; action = Some Set }
 
 abbrev pub option_rule : Argument → Rule
-option_rule option = record (new_rule (argument_name option)) { long = Some (argument_name option); action = Some Set }
+option_rule option = record (new_rule (argument_name option)) {
+  long = Some (argument_name option);
+  action = Some (if is_flag option then SetTrue else Set);
+}
 
 -- a command without arguments, which knows no words for help
 abbrev pub bare_app : CommandName → App

@@ -7,7 +7,7 @@ use Rattle.std.specs.Str.Parse.{digits_value}
 use Rattle.spd_words.specs.declared.scheme.Scheme.{Scheme}
 use Rattle.spd_words.specs.declared.scheme.Scheme.TheVariants as scheme
 use Rattle.spd_command.specs.declared.argument.ValueKind.{ValueKind}
-use Rattle.spd_command.specs.declared.argument.ValueKind.TheVariants.{Name, Number, Scheme as OfScheme}
+use Rattle.spd_command.specs.declared.argument.ValueKind.TheVariants.{Name, Number, Scheme as OfScheme, Flag}
 
 -- It has a byte, and doesn't begin with `-`.
 abbrev pub is_name : List ℕ → Bool
@@ -25,11 +25,16 @@ is_number least most word = nat_le 1 (length word) && nat_le (length word) 10 &&
 abbrev pub is_scheme : List ℕ → Bool
 is_scheme word = bytes_eq (codes "flat") word || bytes_eq (codes "level") word || bytes_eq (codes "grow") word
 
+-- what stands for the value of an option that has none
+abbrev pub flag_value : List ℕ
+flag_value = codes "true"
+
 -- a word that an argument of this kind takes as its value
 abbrev pub is_value : ValueKind → List ℕ → Bool
 is_value Name word = is_name word
 is_value (Number least most) word = is_number least most word
 is_value OfScheme word = is_scheme word
+is_value Flag word = bytes_eq flag_value word
 
 -- the scheme that a word names
 abbrev pub scheme_called : List ℕ → Scheme

@@ -1,4 +1,4 @@
-// The arguments of commands, one row each: operands, and options with a value.
+// The arguments of commands, one row each: operands, and options.
 
 ghost use Rattle.std.specs.Prelude.{◌≡◌};
 ghost use Rattle.spd_command.specs.Table.{argument_name, kind_of_value, is_option_word};
@@ -8,6 +8,10 @@ ghost use Rattle.spd_command.specs.Table.{argument_name, kind_of_value, is_optio
 pub enum Argument {
     /// The operand that names a program's file.
     Program,
+    /// The operand that says how many rows a made file has.
+    Rows,
+    /// The operand that the prices of a made file begin with.
+    FileSeed,
     /// How many workers run it.
     Workers,
     /// How many moves a table has.
@@ -20,6 +24,8 @@ pub enum Argument {
     Grow,
     /// What the coins begin with.
     Seed,
+    /// Whether the counts of a run are told.
+    Counts,
 }
 
 /// Which words an argument takes as its value.
@@ -31,6 +37,8 @@ pub enum ValueKind {
     Number { least: u32, most: u32 },
     /// `flat`, `level` or `grow`.
     Scheme,
+    /// None: the option stands alone. What is read of it is `true`.
+    Flag,
 }
 
 impl Argument {
@@ -40,12 +48,15 @@ impl Argument {
     {
         match self {
             Argument::Program => "PROGRAM",
+            Argument::Rows => "ROWS",
+            Argument::FileSeed => "SEED",
             Argument::Workers => "workers",
             Argument::Moves => "moves",
             Argument::Nodes => "nodes",
             Argument::Tree => "tree",
             Argument::Grow => "grow",
             Argument::Seed => "seed",
+            Argument::Counts => "counts",
         }
     }
 
@@ -55,6 +66,14 @@ impl Argument {
     {
         match self {
             Argument::Program => ValueKind::Name,
+            Argument::Rows => ValueKind::Number {
+                least: 0,
+                most: 1_000_000,
+            },
+            Argument::FileSeed => ValueKind::Number {
+                least: 0,
+                most: u32::MAX,
+            },
             Argument::Workers => ValueKind::Number { least: 1, most: 64 },
             Argument::Moves => ValueKind::Number {
                 least: 1,
@@ -73,6 +92,7 @@ impl Argument {
                 least: 0,
                 most: u32::MAX,
             },
+            Argument::Counts => ValueKind::Flag,
         }
     }
 

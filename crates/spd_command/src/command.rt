@@ -1,12 +1,12 @@
 // What the words of a command line ask for.
 
-ghost use Rattle.std.specs.Prelude.{◌≡◌, ◌↔◌, List, [], map, Some, None, IfOk, Err, MatchOption, option_map, unwrap_or};
+ghost use Rattle.std.specs.Prelude.{◌≡◌, ◌↔◌, Bool, List, [], map, Some, None, IfOk, Err, MatchOption, option_map, unwrap_or};
 ghost use Rattle.std.specs.Option.{option_map_or};
 ghost use Rattle.std.specs.String.{string_bytes};
 ghost use Rattle.std.specs.Str.Parse.{digits_value};
 ghost use Rattle.spd_command.specs.Lines.{Passed};
 ghost use Rattle.spd_command.specs.Values.{scheme_called};
-ghost use Rattle.spd_command.specs.Found.{word_found, IsFound, MayBeNumber};
+ghost use Rattle.spd_command.specs.Found.{word_found, flag_found, IsFlagText, IsFound, MayBeNumber};
 ghost use Rattle.spd_command.specs.Asked.{asked_of, asked_by, name_in, settings_in, KeepsRanges, IsLine};
 ghost use Rattle.spd_command.specs.Seen.{asked};
 
@@ -32,9 +32,20 @@ pub enum Command<'a> {
     Check {
         program: &'a str,
     },
+    /// To write a CSV file of this many rows, at most 1,000,000, that is made from a seed.
+    Make {
+        rows: u32,
+        seed: u32,
+    },
     /// To run a program on workers.
     Run {
         program: &'a str,
+        settings: Settings,
+    },
+    /// To run the built-in program over a made file on workers.
+    Job {
+        rows: u32,
+        seed: u32,
         settings: Settings,
     },
 }
@@ -66,7 +77,7 @@ fn text<'a>(found: &ArgMatches<'a>, argument: Argument) -> &'a str
     }
 }
 
-/// The number that was found for an option, or the standard one.
+/// The number that was found for an argument, or the standard one.
 fn number(found: &ArgMatches, argument: Argument, standard: u32) -> u32
     requires { MayBeNumber found.now argument }
     ensures { result ≡ option_map_or (digits_value 10) (word_found found.now argument) standard }
@@ -87,6 +98,13 @@ fn scheme(found: &ArgMatches, argument: Argument, standard: Scheme) -> Scheme
     }
 }
 
+/// Whether an option that stands alone was found.
+fn flag(found: &ArgMatches, argument: Argument) -> bool
+    ensures { (given : Bool) → IsFlagText given (flag_found found.now argument) → result ≡ given }
+{
+    found.get_flag(argument.name())
+}
+
 /// The settings that were found.
 fn settings(found: &ArgMatches) -> Settings
     requires { (all : List Passed) × IsFound found.now all }
@@ -99,6 +117,7 @@ fn settings(found: &ArgMatches) -> Settings
         tree: scheme(found, Argument::Tree, STANDARD.tree),
         grow: number(found, Argument::Grow, STANDARD.grow),
         seed: number(found, Argument::Seed, STANDARD.seed),
+        counts: flag(found, Argument::Counts),
     }
 }
 
@@ -115,8 +134,17 @@ fn command_of<'a>(name: CommandName, found: &ArgMatches<'a>) -> Command<'a>
         CommandName::Check => Command::Check {
             program: text(found, Argument::Program),
         },
+        CommandName::Make => Command::Make {
+            rows: number(found, Argument::Rows, 0),
+            seed: number(found, Argument::FileSeed, 0),
+        },
         CommandName::Run => Command::Run {
             program: text(found, Argument::Program),
+            settings: settings(found),
+        },
+        CommandName::Job => Command::Job {
+            rows: number(found, Argument::Rows, 0),
+            seed: number(found, Argument::FileSeed, 0),
             settings: settings(found),
         },
     }
@@ -141,8 +169,8 @@ fn line_of<'a>(words: &'a [String]) -> Option<(CommandName, &'a [String])>
 }
 
 /// The command of a command line, or none where the words are no command line. The first word names
-/// it; behind it stand its operands, in order, and options, each with its value as the next word, in
-/// any place. It takes no memory.
+/// it; behind it stand its operands, in order, and options in any place, each with its value as the next word
+/// unless it stands alone. It takes no memory.
 pub fn lawful_command(words: &[String]) -> Option<CommandName>
     ensures { result ≡ name_in (map string_bytes words.now) }
 {

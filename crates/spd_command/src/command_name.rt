@@ -13,13 +13,23 @@ pub enum CommandName {
     Elide,
     /// To tell the first fault of a program, or else its canonical text.
     Check,
+    /// To write a CSV file that is made from two numbers.
+    Make,
     /// To run a program on workers.
     Run,
+    /// To run the built-in program over a made file on workers.
+    Job,
 }
 
 impl CommandName {
     /// All of them.
-    pub const ALL: [CommandName; 3] = [CommandName::Elide, CommandName::Check, CommandName::Run];
+    pub const ALL: [CommandName; 5] = [
+        CommandName::Elide,
+        CommandName::Check,
+        CommandName::Make,
+        CommandName::Run,
+        CommandName::Job,
+    ];
 
     /// The word that names it.
     pub fn word(self) -> &'static str
@@ -28,7 +38,9 @@ impl CommandName {
         match self {
             CommandName::Elide => "elide",
             CommandName::Check => "check",
+            CommandName::Make => "make",
             CommandName::Run => "run",
+            CommandName::Job => "job",
         }
     }
 
@@ -46,7 +58,9 @@ impl CommandName {
         match self {
             CommandName::Elide => &[Argument::Program],
             CommandName::Check => &[Argument::Program],
+            CommandName::Make => &[Argument::Rows, Argument::FileSeed],
             CommandName::Run => &[Argument::Program],
+            CommandName::Job => &[Argument::Rows, Argument::FileSeed],
         }
     }
 
@@ -57,13 +71,15 @@ impl CommandName {
         match self {
             CommandName::Elide => &[],
             CommandName::Check => &[],
-            CommandName::Run => &[
+            CommandName::Make => &[],
+            CommandName::Run | CommandName::Job => &[
                 Argument::Workers,
                 Argument::Moves,
                 Argument::Nodes,
                 Argument::Tree,
                 Argument::Grow,
                 Argument::Seed,
+                Argument::Counts,
             ],
         }
     }

@@ -7,7 +7,7 @@ ghost use Rattle.spd_command.specs.Table.{is_option_word, operands_of, options_o
 ghost use Rattle.spd_command.specs.Lines.{passed_by, arguments_in};
 ghost use Rattle.spd_command.specs.Testing.{fits, fits_from, fits_behind, stand_once};
 
-use crate::argument::Argument;
+use crate::argument::{Argument, ValueKind};
 use crate::command_name::CommandName;
 
 /// What may stand next behind a command.
@@ -21,7 +21,6 @@ pub(crate) struct Next {
 
 impl Next {
     /// What may stand behind a word, or none where the word may not stand here.
-    #[tactic(auto, using(crate::proofs::Testing::option_step))]
     fn behind(self, command: CommandName, word: &str) -> Option<Next>
         ensures { (rest : List (List ℕ)) → fits_behind result (options_of command) rest
             ≡ fits_from self.waiting self.operands.now (options_of command) (word.now ∷ rest) }
@@ -29,12 +28,25 @@ impl Next {
         match self.waiting {
             Some(option) => self.behind_value(option, word),
             None => match command.option_called(word.as_bytes()) {
-                Some(option) => Some(Next {
-                    waiting: Some(option),
-                    operands: self.operands,
-                }),
+                Some(option) => Some(self.behind_option(option)),
                 None => self.behind_operand(word),
             },
+        }
+    }
+
+    /// The same of an option's word: its value, unless it stands alone.
+    fn behind_option(self, option: Argument) -> Next
+        ensures { (options : List Argument) (word : List ℕ) (rest : List (List ℕ))
+            → option_called options word ≡ Some option
+            → fits_behind (Some result) options rest ≡ fits_from None self.operands.now options (word ∷ rest) }
+    {
+        let waiting = match option.kind() {
+            ValueKind::Flag => None,
+            _ => Some(option),
+        };
+        Next {
+            waiting,
+            operands: self.operands,
         }
     }
 

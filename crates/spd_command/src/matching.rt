@@ -7,7 +7,7 @@ ghost use Rattle.spd_command.specs.Found.{Reads};
 ghost use Rattle.spd_command.specs.Lines.{arguments_in};
 ghost use Rattle.spd_command.specs.Matching.{operand_rule, option_rule, bare_app, with_operands, with_options, app_for};
 
-use crate::argument::Argument;
+use crate::argument::{Argument, ValueKind};
 use crate::command_name::CommandName;
 use clap::error::ErrorKind;
 use clap::{Arg, ArgAction, ArgMatches};
@@ -22,13 +22,17 @@ fn operand<'a>(alloc: Global, operand: Argument) -> Arg<'a>
     Arg::new(alloc, name).required(true).action(ArgAction::Set)
 }
 
-/// An option with one value.
+/// An option with one value, or one that stands alone.
 fn option<'a>(alloc: Global, option: Argument) -> Arg<'a>
     ensures rule { rule_of result ≡ option_rule option }
     ensures own { result.global ≡ false }
 {
     let name: &'a str = option.name();
-    Arg::new(alloc, name).long(name).action(ArgAction::Set)
+    let action = match option.kind() {
+        ValueKind::Flag => ArgAction::SetTrue,
+        _ => ArgAction::Set,
+    };
+    Arg::new(alloc, name).long(name).action(action)
 }
 
 /// A command without arguments, which knows no words for help.

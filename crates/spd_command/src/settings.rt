@@ -17,6 +17,8 @@ pub struct Settings {
     pub grow: u32,
     /// What the coins begin with.
     pub seed: u32,
+    /// Whether its regions and moves are told behind its output.
+    pub counts: bool,
 }
 
 /// What holds where no option is given.
@@ -27,4 +29,5 @@ pub const STANDARD: Settings = Settings {
     tree: Scheme::Grow,
     grow: 32_768,
     seed: 1,
+    counts: false,
 };

@@ -63,6 +63,7 @@ impl ValueKind {
             ValueKind::Name => is_name(word.as_bytes()),
             ValueKind::Number { least, most } => is_number(least, most, word),
             ValueKind::Scheme => is_scheme(word),
+            ValueKind::Flag => word == "true",
         }
     }
 }
