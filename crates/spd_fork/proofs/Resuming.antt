@@ -1,6 +1,7 @@
 -- What a share knows once it has collected what its vertex waited for.
 use Rattle.std.proofs.Common.{◌≡◌, ◌≢◌, ℕ, ◌+◌, ◌*◌, ◌/◌, ◌%◌, Bool, true, false, cond, eq-eqb, Option, Some, None, is_some, not, refl, sym, ap, ◌∙◌, subst, arith}
 use Prim.Native.Nat.{zero, suc}
+use Rattle.std.specs.Option.{IsSome}
 use Rattle.spd_words.specs.Meaning.{Awaited, kind_of_awaited}
 use Rattle.spd_words.specs.declared.finish_kind.FinishKind.{FinishKind}
 use Rattle.spd_state.specs.Promises.{expected_in, expected_of}
@@ -30,6 +31,18 @@ told_some o k none e s f = λ (n : o ≡ None). absurd (let a : is_some k ≡ fa
 some_awaited : (o : Option Awaited) → kind_of_awaited o ≢ None → (x : Awaited) × (o ≡ Some x)
 some_awaited None some = absurd (some refl)
 some_awaited (Some x) some = (x, refl)
+
+-- the look leaves the seats
+pub seats_stay : (b : Bool) (o : Option Expected) (n : ℕ) (v : View) → (cond b (collected_view o n v) (stepped v)).seats ≡ v.seats
+seats_stay false o n v = refl
+seats_stay true None n v = refl
+seats_stay true (Some x) zero v = refl
+seats_stay true (Some x) (suc c) v = refl
+
+-- what waits awaits something
+pub awaits_some : (o : Option Awaited) → kind_of_awaited o ≢ None → IsSome o
+awaits_some None some = absurd (some refl)
+awaits_some (Some x) some = refl
 
 module _ (seats : ℕ) (r : Running) (v : View) (w : IsWorking seats r (record v { awaited = None })) where
   works_now : v.awaited ≡ None → IsWorking seats r v

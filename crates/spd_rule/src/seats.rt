@@ -127,8 +127,8 @@ impl<B> Share<B> {
         self.beside.spare
     }
 
-    /// How many vertices the share has started, by itself or by the shares that were joined into it. It is
-    /// told of a share with 64 seats at most, as all shares of a field have together.
+    /// How many vertices the share has started, by itself or by the shares that were joined into it: that
+    /// number where its seats are 64 at most, as those of all shares of a field together are.
     pub fn starts(&self) -> u64
         ensures { (share_view self.now).seats < 65 → result ≡ (share_view self.now).starts }
     {

@@ -1,10 +1,11 @@
 -- The notes after a root or a pair is set.
 use Rattle.std.proofs.Common.{◌≡◌, ◌≢◌, ℕ, [], ◌∷◌, refl, sym, ap, ◌∙◌, subst, arith}
-use Rattle.std.proofs.Common.{Option, Some, None, inr, eq-eqb, cond}
+use Rattle.std.proofs.Common.{Option, Some, None, inr, eq-eqb, cond, true, false}
 use Rattle.atomic_table.specs.Table.{Me}
 use Rattle.spd_state.specs.Sums.{count, without}
 use Rattle.spd_state.specs.Tree.{top_in}
-use Rattle.spd_state.specs.Stages.{handed_view}
+use Rattle.spd_words.specs.declared.finish_kind.FinishKind.TheVariants.{Plain}
+use Rattle.spd_state.specs.Stages.{handed_view, rooted_view, taken_kind}
 use Rattle.spd_state.specs.declared.view.Draw.{Draw}
 use Rattle.spd_state.specs.declared.view.Draw.TheVariants.{Make, Chain, Spawn}
 use Rattle.spd_state.specs.declared.view.Flight.{Flight}
@@ -12,7 +13,7 @@ use Rattle.spd_state.specs.declared.view.View.{View}
 use Rattle.spd_state.proofs.Sums.{same_self}
 use Rattle.spd_rule.specs.Nobody.{nobody}
 use Rattle.spd_rule.specs.Rest.{due}
-use Rattle.spd_rule.specs.Moves.{flight_with, pair_set, fresh_pair, MaySetPair}
+use Rattle.spd_rule.specs.Moves.{flight_with, draw_in, root_set, pair_set, fresh_pair, MaySetPair}
 use Rattle.spd_rule_tests.specs.declared.notes.Notes.{Notes}
 use Rattle.spd_rule_tests.specs.Notes.{OpensAt, SpawnsAt, HasHandles}
 use Rattle.spd_rule_tests.specs.Ties.{Ties, listed}
@@ -22,6 +23,47 @@ pub lone : (d : ℕ) → without d (d ∷ []) ≡ []
 lone d = ap (λ b. cond b [] (d ∷ [])) (eq-eqb d d refl)
 
 module _ {B : Type 0} (me : Me (Option B) View) (n : Notes) (h : Ties me n) where
+  -- what a root that is set leaves
+  rooted : (draw : Draw) (d : ℕ) → n.flight ≡ Some (flight_with draw d d 0) → Ties (rooted_view draw d nobody me.0, me.1)
+      (record n { flight = Some (flight_with draw d d 1); rooted = Some d; knows = false })
+  rooted draw d flies = record {
+    running = h.running;
+    flight = refl;
+    held = h.held;
+    claimed = h.claimed;
+    rooted = refl;
+    told = h.told;
+    plain = record {
+      lifted = h.plain.lifted;
+      above = h.plain.above;
+      halves = h.plain.halves;
+      sprout = h.plain.sprout;
+      gives = taken draw;
+      kind = h.plain.kind;
+    };
+    fresh = h.fresh;
+    full = h.full;
+    wild = h.wild;
+    made = h.made;
+    seats = h.seats;
+    awaits = h.awaits;
+    waits = h.waits;
+    hurt = h.hurt;
+    knows = λ e. absurd (cc);
+    slots = h.slots ∙ ap (λ f. due f me.0.running) (h.flight ∙ flies);
+    heads = h.heads;
+  }
+    where
+      taken : (x : Draw) → taken_kind x nobody me.0.gives ≡ Plain
+      taken Make = h.plain.gives
+      taken Chain = refl
+      taken Spawn = h.plain.gives
+
+  pub ties_root : (draw : Draw) (d : ℕ) → OpensAt draw d 0 n → Ties (root_set d nobody me.0, me.1)
+      (record n { flight = Some (flight_with draw d d 1); rooted = Some d; knows = false })
+  ties_root draw d o = subst (λ (f : Option Flight). Ties (rooted_view (draw_in f) d nobody me.0, me.1)
+      (record n { flight = Some (flight_with draw d d 1); rooted = Some d; knows = false })) (sym (h.flight ∙ o.flies)) (rooted draw d o.flies)
+
   -- what the handing over of a root's unit leaves
   handed : (draw : Draw) (d : ℕ) → n.flight ≡ Some (flight_with draw d d 1) → Ties (handed_view draw d me.0, me.1)
       (record n { flight = Some (flight_with draw d d 2); rooted = None })

@@ -355,6 +355,49 @@ fn a_share_with_a_seat_missing_closes_nothing(rt: HostRuntime) {
     assert!(rt; left.close(field).is_none());
 }
 
+/// The steps of two shares: whether the right one takes it, the step, what it answers, and the starts of the
+/// left and of the right share once it is taken.
+#[derive(Clone, Copy)]
+struct Counted(bool, Turn, u64, u64, u64);
+
+/// The right share misses vertex 2, which the left one has started, and starts vertex 3.
+const COUNTED: [Counted; 5] = [
+    Counted(false, Turn::Start(2, 10), 10, 2, 0),
+    Counted(true, Turn::Start(2, 10), 11, 2, 0),
+    Counted(true, Turn::Start(3, 14), 14, 2, 1),
+    Counted(true, Turn::Claim, 8, 2, 1),
+    Counted(true, Turn::Depart, 4, 2, 1),
+];
+
+/// What is left to the left share, once it has the other's seats and starts.
+const REST: [Row; 4] = [
+    Row(Turn::Claim, 9, 10, 10),
+    Row(Turn::Depart, 2, 3, 0),
+    Row(Turn::Wake, 1, 13, 2),
+    Row(Turn::Start(1, 2), 2, 13, 3),
+];
+
+#[test]
+fn the_starts_of_two_shares(rt: HostRuntime) {
+    let (field, mut left, mut right) = forked(&rt, rt.alloc());
+    assert_eq!(rt; left.share.starts(), 1, "vertex 0");
+    assert_eq!(rt; right.share.starts(), 0, "a new share");
+    for Counted(at_right, turn, answer, lefts, rights) in COUNTED {
+        let found = if at_right {
+            right.take(&field, turn)
+        } else {
+            left.take(&field, turn)
+        };
+        assert_eq!(rt; found, Some(answer), "{turn:?}");
+        assert_eq!(rt; left.share.starts(), lefts, "{turn:?}");
+        assert_eq!(rt; right.share.starts(), rights, "{turn:?}");
+    }
+    assert_eq!(rt; left.join(&field, right), Some(0), "nothing is in hand");
+    assert_eq!(rt; left.share.starts(), 3);
+    play(&rt, &field, &mut left, &REST);
+    assert_eq!(rt; left.share.starts(), 4, "two for each of two moves");
+}
+
 /// Plays the rows of the fork and then these, and compares each word with what the rows leave.
 fn follow_fork(rt: &impl Abort, alloc: Global, rows: &[Row]) {
     let (field, mut player) = begin(rt, alloc);
