@@ -6,13 +6,13 @@ use Rattle.spd_level.specs.Columns.{context_of}
 use Rattle.spd_run.specs.JobLogs.{with_jobs}
 use Rattle.spd_spine.specs.Walk.{main_eval}
 use Rattle.spd_top.specs.declared.words.SerialCommand.TheVariants.{Elide}
-use Rattle.spd_top.specs.Requests.{request_for}
+use Rattle.spd_top.specs.Requests.{over, counts_for}
 use Rattle.spd_top.specs.Serving.{Answer}
 use Rattle.spd_top.proofs.Ended.{end_answers, end_logs}
 use Rattle.spd_top.proofs.on_workers.run.Goals as goal
 
 pub returns-in-Err-clause-log : goal.returns-in-Err-clause-log
-returns-in-Err-clause-log g c = λ ends. absurd (c.in-Err.ensures.told.not_ended ends)
+returns-in-Err-clause-log g c = λ ends. absurd ((c.in-Err.ensures.told (counts_for c.args.settings)).not_ended ends)
 
 pub returns-clause-answer : goal.returns-clause-answer
 returns-clause-answer g c =
