@@ -10,8 +10,9 @@ use Rattle.clap.specs.Walk.{has_row}
 use Rattle.clap.proofs.WalkLemmas.{both}
 use Rattle.spd_command.specs.declared.argument.Argument.{Argument}
 use Rattle.spd_command.specs.Table.{argument_name, option_called, is_option_word}
+use Rattle.spd_command.specs.Values.{flag_value}
 use Rattle.spd_command.specs.Lines.{Passed, passes, are_given_once}
-use Rattle.spd_command.proofs.Falls.{Falls, ended, operand_next, option_next}
+use Rattle.spd_command.proofs.Falls.{Falls, ended, operand_next, flag_next, option_next}
 use Rattle.spd_command.proofs.Once.{differs}
 use Rattle.spd_command.proofs.ClapRows.{given_rows, is_new}
 
@@ -111,7 +112,14 @@ apart options _ _ _ (operand_next a operands word words all none value rest) own
       apart options operands words all rest own_later (fewer a operands options other) (done ++ p ∷ []) (all_push operands p done apart_from later)
           (λ o w is. subst (λ z. count_by (passes o) z ≤ 1) (sym (append_assoc done (p ∷ []) all)) (once o w is)),
     )
-apart options _ _ _ (option_next a operands word value words all named admitted rest) own other done new once =
+apart options _ _ _ (flag_next a operands word words all named flag rest) own other done new once =
+    let p : Passed = record { argument = a; value = flag_value } in
+    let away : differs operands a ≡ true = kept (λ o. is_option_word o word) (differs operands) options a other named in (
+      new_if_once a p done all (nat_list_eq_equiv.refl (argument_name a)) (once a word named),
+      apart options operands words all rest own other (done ++ p ∷ []) (all_push operands p done (turned a operands away) new)
+          (λ o w is. subst (λ z. count_by (passes o) z ≤ 1) (sym (append_assoc done (p ∷ []) all)) (once o w is)),
+    )
+apart options _ _ _ (option_next a operands word value words all named valued admitted rest) own other done new once =
     let p : Passed = record { argument = a; value = value } in
     let away : differs operands a ≡ true = kept (λ o. is_option_word o word) (differs operands) options a other named in (
       new_if_once a p done all (nat_list_eq_equiv.refl (argument_name a)) (once a word named),

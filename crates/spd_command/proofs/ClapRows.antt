@@ -1,20 +1,18 @@
 -- The rows that `clap` holds are the arguments that were given so far.
-use Rattle.std.proofs.Common.{◌≡◌, ◌∙◌, ◌||◌, ◌⊎◌, ⊎_elim, ℕ, Bool, true, false, not, cond, if◌then◌else◌, refl, sym, ap, List, [], ◌∷◌, ◌++◌, Option, Some, None, map, option_map, find, option_and_then, slice_get, fold, true≢false}
-use Rattle.std.specs.List.{list_all}
+use Rattle.std.proofs.Common.{◌≡◌, ◌∙◌, ◌&&◌, ◌||◌, ◌⊎◌, ⊎_elim, ℕ, Bool, true, false, not, cond, if◌then◌else◌, refl, sym, ap, ap₂, List, [], ◌∷◌, ◌++◌, Option, Some, None, map, option_map, find, option_and_then, slice_get, true≢false}
 use Rattle.std.specs.Str.{bytes_eq}
 use Rattle.std.proofs.lemmas.List.{append-nil, map-append}
 use Rattle.std.specs.Option.{option_map_or}
 use Rattle.clap.specs.Facts.{explicit_source}
-use Rattle.clap.specs.Walk.{reading_by, more_values, Held, Row, Rule, Text, at_row, without, with_values, has_row, used_by_id, settled, arg_by_id, first_of, with_default, is_empty, default_rows}
-use Rattle.clap.specs.Takes.{settle_passes, is_given}
-use Rattle.clap.proofs.SimpleLemmas.{is_nil}
-use Rattle.clap.proofs.WalkLemmas.{both}
+use Rattle.clap.specs.Walk.{more_values, Held, Row, Rule, Text, at_row, without, with_values, has_row, used_by_id, used, reacted, settled, arg_by_id, first_of}
+use Rattle.clap.specs.Takes.{react_passes, settle_passes, use_passes, is_given}
 use Rattle.clap.specs.declared.parser.matches.ValueSource.TheVariants.{CommandLine}
 use Rattle.clap.specs.declared.builder.value_parser.Reading.TheVariants.{AsWritten}
 use Rattle.spd_command.specs.declared.argument.Argument.{Argument}
 use Rattle.spd_command.specs.Table.{argument_name}
+use Rattle.spd_command.specs.Values.{flag_value}
 use Rattle.spd_command.specs.Lines.{Passed, passes, value_in}
-use Rattle.spd_command.proofs.ClapWalk.{option_built, operand_built, begun}
+use Rattle.spd_command.proofs.ClapWalk.{built_as, operand_built, begun}
 
 -- ---- rows
 
@@ -40,9 +38,9 @@ untouched id rows e = at_end id (λ _. []) [] rows e ∙ append-nil rows
 
 -- ---- an argument that is used
 
--- `clap` finds the argument by its name
+-- `clap` finds the argument by its name, and it has a value
 abbrev pub IsKnown : List Rule → Argument → Type 0
-IsKnown rules a = (arg_by_id rules (argument_name a) ≡ Some (option_built a)) ⊎ ((i : ℕ) × (arg_by_id rules (argument_name a) ≡ Some (operand_built i a)))
+IsKnown rules a = (arg_by_id rules (argument_name a) ≡ Some (built_as false a)) ⊎ ((i : ℕ) × (arg_by_id rules (argument_name a) ≡ Some (operand_built i a)))
 
 abbrev pub is_new : Argument → List Passed → Bool
 is_new a done = not (has_row (argument_name a) (given_rows done))
@@ -54,15 +52,20 @@ no_row a done e = go (has_row (argument_name a) (given_rows done)) e
     go true e = absurd (true≢false (sym e))
     go false e = refl
 
+-- a new argument's row comes to the end
+put_row : (p : Passed) (done : List Passed) → is_new p.argument done ≡ true
+    → with_values (argument_name p.argument) AsWritten CommandLine (p.value ∷ []) (without (argument_name p.argument) (given_rows done))
+    ≡ given_rows (done ++ p ∷ [])
+put_row p done new =
+    let none = no_row p.argument done new in
+    ap (λ z. with_values (argument_name p.argument) AsWritten CommandLine (p.value ∷ []) z) (untouched (argument_name p.argument) (given_rows done) none)
+    ∙ at_end (argument_name p.argument) (more_values CommandLine (p.value ∷ [])) (given_row p ∷ []) (given_rows done) none
+    ∙ sym (map-append given_row done (p ∷ []))
+
 pub used_rows : (rules : List Rule) (p : Passed) (done : List Passed) → IsKnown rules p.argument → is_new p.argument done ≡ true
     → used_by_id (arg_by_id rules (argument_name p.argument)) (p.value ∷ []) (given_rows done) ≡ given_rows (done ++ p ∷ [])
 used_rows rules p done known new =
-    let none = no_row p.argument done new in
-    let id = argument_name p.argument in
-    let all : with_values id AsWritten CommandLine (p.value ∷ []) (without id (given_rows done)) ≡ given_rows (done ++ p ∷ []) =
-    ap (λ z. with_values id AsWritten CommandLine (p.value ∷ []) z) (untouched id (given_rows done) none)
-    ∙ at_end id (more_values CommandLine (p.value ∷ [])) (given_row p ∷ []) (given_rows done) none
-    ∙ sym (map-append given_row done (p ∷ [])) in
+    let all = put_row p done new in
     ⊎_elim (λ is. ap (λ o. used_by_id o (p.value ∷ []) (given_rows done)) is ∙ all)
     (λ is. ap (λ o. used_by_id o (p.value ∷ []) (given_rows done)) is.1 ∙ all) known
 
@@ -95,6 +98,27 @@ pub begins : (rules : List Rule) (done : List Passed) (last : Option Passed) (p 
     → begun rules p.argument (p.value ∷ []) (holding done last) ≡ holding (done ++ listed last) (Some p)
 begins rules done last p may = ap (λ (h : Held). record h { pending = Some (argument_name p.argument, p.value ∷ []) }) (settled_is rules done last may)
 
+-- ---- a flag
+
+abbrev pub flag_given : Argument → Passed
+flag_given a = record { argument = a; value = flag_value }
+
+flag_passes : (a : Argument) (done : List Passed) → is_new a done ≡ true → use_passes false (built_as true a) [] (given_rows done) ≡ true
+flag_passes a done new = rw (no_row a done new) refl
+
+pub flag_settles : (rules : List Rule) (done : List Passed) (last : Option Passed) (a : Argument) → MayBeUsed rules done last
+    → is_new a (done ++ listed last) ≡ true → react_passes rules false (built_as true a) [] (holding done last) ≡ true
+flag_settles rules done last a may new =
+    ap₂ (λ t (h : Held). t && use_passes false (built_as true a) [] h.rows) (settles rules done last may) (settled_is rules done last may)
+    ∙ flag_passes a (done ++ listed last) new
+
+-- it has its row at once
+pub flag_reacts : (rules : List Rule) (done : List Passed) (last : Option Passed) (a : Argument) → MayBeUsed rules done last
+    → is_new a (done ++ listed last) ≡ true → reacted rules (built_as true a) [] (holding done last) ≡ holding ((done ++ listed last) ++ flag_given a ∷ []) None
+flag_reacts rules done last a may new =
+    ap (λ (h : Held). record (holding done None) { rows = used (built_as true a) [] h.rows }) (settled_is rules done last may)
+    ∙ ap (λ rows. record (holding done None) { rows = rows }) (put_row (flag_given a) (done ++ listed last) new)
+
 -- ---- reading the rows
 
 pub first_is : (a : Argument) (all : List Passed) → first_of (argument_name a) (given_rows all) ≡ value_in a all
@@ -114,17 +138,3 @@ given_first a p all = go (passes a p)
         ≡ (t || is_given (argument_name a) (given_rows all))
     go true = refl
     go false = refl
-
--- arguments without defaults get no row at the end
-pub no_defaults : (rules : List Rule) (rows : List Row) → list_all (λ (a : Rule). is_empty a.defaults) rules ≡ true → fold with_default rows rules ≡ rows
-no_defaults [] rows e = refl
-no_defaults (a ∷ rules) rows e =
-    let (here, later) = both (is_empty a.defaults) _ e in
-    ap (λ z. fold with_default z rules) (kept here) ∙ no_defaults rules rows later
-  where
-    kept : is_empty a.defaults ≡ true → with_default rows a ≡ rows
-    kept here = ap (λ values. if has_row a.id rows then rows else default_rows a.id (reading_by a) values rows) (is_nil a.defaults here) ∙ go (has_row a.id rows)
-      where
-        go : (t : Bool) → (if t then rows else rows) ≡ rows
-        go true = refl
-        go false = refl

@@ -8,12 +8,13 @@ use Rattle.std.proofs.lemmas.Slice.Eq.{bytes_eq-Decides}
 use Rattle.clap.proofs.WalkLemmas.{both}
 use Rattle.spd_command.specs.declared.argument.Argument.{Argument}
 use Rattle.spd_command.specs.declared.command_name.CommandName.{CommandName}
-use Rattle.spd_command.specs.declared.command_name.CommandName.TheVariants.{Elide, Check, Run}
+use Rattle.spd_command.specs.declared.command_name.CommandName.TheVariants.{Elide, Check, Make, Run, Job}
 use Rattle.spd_command.specs.Table.{argument_name, option_called, is_option_word, kind_of_value, operands_of, options_of}
+use Rattle.spd_command.specs.Values.{flag_value}
 use Rattle.spd_command.specs.Lines.{Passed, passed_by, passes, are_values, are_given_once, arguments_in}
 use Rattle.spd_command.specs.Testing.{fits, stand_once}
 use Rattle.spd_command.proofs.PlainWords.{plain_value, no_option_word}
-use Rattle.spd_command.proofs.Falls.{Falls, ended, operand_next, option_next, all_in, falls}
+use Rattle.spd_command.proofs.Falls.{Falls, ended, operand_next, flag_next, option_next, all_in, falls}
 
 -- ---- what a word that names an option is
 
@@ -55,6 +56,12 @@ skipped option word words other =
     sum_by-cons (λ w. cond (is_option_word option w) 1 0) word words
     ∙ ap (λ (t : Bool). cond t 1 0 + count_by (is_option_word option) words) other ∙ omega arith
 
+-- the word of an option is that of another where they have one name
+named_as : (option : Argument) (options : List Argument) (word : List ℕ) (a : Argument) → option_called options word ≡ Some a
+    → is_option_word option word ≡ bytes_eq (argument_name a) (argument_name option)
+named_as option options word a named =
+    ap (is_option_word option) (option_word options word a named) ∙ nat_list_eq_equiv.symm (argument_name option) (argument_name a)
+
 pub counts : (option : Argument) (options operands : List Argument) (words : List (List ℕ)) (all : List Passed) → Falls options operands words all
     → differs operands option ≡ true → count_by (is_option_word option) words ≡ count_by (passes option) all
 counts option options _ _ _ ended d = refl
@@ -62,9 +69,11 @@ counts option options _ _ _ (operand_next a operands word words all none value r
     let (here, later) = both (not (bytes_eq (argument_name a) (argument_name option))) _ d in
     more option word words (record { argument = a; value = word }) all (no_option_word option word (plain_value (kind_of_value a) word value) ∙ sym (untrue _ here))
     (counts option options operands words all rest later)
-counts option options _ _ _ (option_next a operands word value words all named admitted rest) d =
-    more option word (value ∷ words) (record { argument = a; value = value }) all
-    (ap (is_option_word option) (option_word options word a named) ∙ nat_list_eq_equiv.symm (argument_name option) (argument_name a))
+counts option options _ _ _ (flag_next a operands word words all named flag rest) d =
+    more option word words (record { argument = a; value = flag_value }) all (named_as option options word a named)
+    (counts option options operands words all rest d)
+counts option options _ _ _ (option_next a operands word value words all named valued admitted rest) d =
+    more option word (value ∷ words) (record { argument = a; value = value }) all (named_as option options word a named)
     (skipped option value words (no_option_word option value (plain_value (kind_of_value a) value admitted)) ∙ counts option options operands words all rest d)
 
 pub once : (some operands options : List Argument) (words : List (List ℕ)) → list_all (differs operands) some ≡ true → fits (passed_by operands options words) ≡ true
@@ -79,7 +88,9 @@ once (option ∷ some) operands options words d f =
 pub named_apart : (command : CommandName) → list_all (differs (operands_of command)) (options_of command) ≡ true
 named_apart Elide = refl
 named_apart Check = refl
+named_apart Make = refl
 named_apart Run = refl
+named_apart Job = refl
 
 pub lawful_is : (command : CommandName) (words : List (List ℕ)) (all : Option (List Passed)) → passed_by (operands_of command) (options_of command) words ≡ all
     → is_some (arguments_in command words) ≡ (fits all && are_given_once (options_of command) (all_in all))

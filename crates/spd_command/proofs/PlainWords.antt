@@ -6,9 +6,9 @@ use Rattle.std.proofs.lemmas.Slice.Eq.{bytes_eq-Decides}
 use Rattle.clap.proofs.WalkLemmas.{both}
 use Rattle.spd_command.specs.declared.argument.Argument.{Argument}
 use Rattle.spd_command.specs.declared.argument.ValueKind.{ValueKind}
-use Rattle.spd_command.specs.declared.argument.ValueKind.TheVariants.{Name, Number, Scheme}
+use Rattle.spd_command.specs.declared.argument.ValueKind.TheVariants.{Name, Number, Scheme, Flag}
 use Rattle.spd_command.specs.Table.{argument_name, is_option_word}
-use Rattle.spd_command.specs.Values.{is_name, is_scheme, is_value, is_decimal}
+use Rattle.spd_command.specs.Values.{is_name, is_scheme, is_value, is_decimal, flag_value}
 use Rattle.spd_command.proofs.Decimals.{decimal_of}
 
 -- a first byte that isn't a hyphen
@@ -46,6 +46,7 @@ pub plain_value : (kind : ValueKind) (word : List ℕ) → is_value kind word �
 plain_value Name word e = plain_name word e
 plain_value (Number least most) word e = let d = decimal_of least most word e in plain_digits word d.some d.digits
 plain_value Scheme word e = plain_scheme word e
+plain_value Flag word e = (116, codes "rue", sym ((bytes_eq-Decides flag_value word).0 e), refl)
 
 pub no_option_word : (option : Argument) (word : List ℕ) → Plain word → is_option_word option word ≡ false
 no_option_word option word (b, bs, is, plain) =

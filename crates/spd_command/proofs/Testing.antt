@@ -3,8 +3,10 @@ use Rattle.std.proofs.Common.{◌≡◌, ◌∙◌, ◌&&◌, ◌-◌, ◌==◌,
 use Rattle.std.proofs.lemmas.List.{take_all}
 use Rattle.std.proofs.lemmas.Bool.Decides.{nat_tests}
 use Rattle.spd_command.specs.declared.argument.Argument.{Argument}
-use Rattle.spd_command.specs.Table.{option_called, is_option_word, kind_of_value}
-use Rattle.spd_command.specs.Values.{is_value}
+use Rattle.spd_command.specs.declared.argument.ValueKind.{ValueKind}
+use Rattle.spd_command.specs.declared.argument.ValueKind.TheVariants.{Name, Number, Scheme, Flag}
+use Rattle.spd_command.specs.Table.{option_called, is_option_word, is_flag, kind_of_value, stands_alone}
+use Rattle.spd_command.specs.Values.{is_value, flag_value}
 use Rattle.spd_command.specs.Lines.{Passed, passed_by, passed_first, operand_first}
 use Rattle.spd_command.specs.Testing.{fits, fits_from, stand_once}
 
@@ -19,22 +21,31 @@ operand_step (operand ∷ operands) options word [] e = rw (e, passed_by) refl
 operand_step [] options word (next ∷ rest) e = rw (e, passed_by) refl
 operand_step (operand ∷ operands) options word (next ∷ rest) e = rw (e, passed_by) refl
 
--- behind an option's word stands its value
+-- behind an option's word stands its value, unless it is a flag
 pub value_step : (operands options : List Argument) (word value : List ℕ) (rest : List (List ℕ)) (option : Argument) → option_called options word ≡ Some option
-    → passed_by operands options (word ∷ value ∷ rest) ≡ passed_first option value (passed_by operands options rest)
+    → is_flag option ≡ false → passed_by operands options (word ∷ value ∷ rest) ≡ passed_first option value (passed_by operands options rest)
 unfolding passed_by
-value_step [] options word value rest option e = rw (e, passed_by) refl
-value_step (operand ∷ operands) options word value rest option e = rw (e, passed_by) refl
+value_step [] options word value rest option e valued = rw (e, valued, passed_by) refl
+value_step (operand ∷ operands) options word value rest option e valued = rw (e, valued, passed_by) refl
 
-pub no_value : (operands options : List Argument) (word : List ℕ) (option : Argument) → option_called options word ≡ Some option → passed_by operands options (word ∷ []) ≡ None
+pub no_value : (operands options : List Argument) (word : List ℕ) (option : Argument) → option_called options word ≡ Some option → is_flag option ≡ false
+    → passed_by operands options (word ∷ []) ≡ None
 unfolding passed_by
-no_value [] options word option e = rw (e, passed_by) refl
-no_value (operand ∷ operands) options word option e = rw (e, passed_by) refl
+no_value [] options word option e valued = rw (e, valued, passed_by) refl
+no_value (operand ∷ operands) options word option e valued = rw (e, valued, passed_by) refl
+
+pub flag_step : (operands options : List Argument) (word : List ℕ) (rest : List (List ℕ)) (option : Argument) → option_called options word ≡ Some option
+    → is_flag option ≡ true → passed_by operands options (word ∷ rest) ≡ passed_first option flag_value (passed_by operands options rest)
+unfolding passed_by
+flag_step [] options word [] option e flag = rw (e, flag, passed_by) refl
+flag_step (operand ∷ operands) options word [] option e flag = rw (e, flag, passed_by) refl
+flag_step [] options word (next ∷ rest) option e flag = rw (e, flag, passed_by) refl
+flag_step (operand ∷ operands) options word (next ∷ rest) option e flag = rw (e, flag, passed_by) refl
 
 pub option_step : (operands options : List Argument) (word : List ℕ) (rest : List (List ℕ)) (option : Argument) → option_called options word ≡ Some option
-    → fits_from (Some option) operands options rest ≡ fits (passed_by operands options (word ∷ rest))
-option_step operands options word [] option e = sym (ap fits (no_value operands options word option e))
-option_step operands options word (value ∷ rest) option e = sym (ap fits (value_step operands options word value rest option e))
+    → is_flag option ≡ false → fits_from (Some option) operands options rest ≡ fits (passed_by operands options (word ∷ rest))
+option_step operands options word [] option e valued = sym (ap fits (no_value operands options word option e valued))
+option_step operands options word (value ∷ rest) option e valued = sym (ap fits (value_step operands options word value rest option e valued))
 
 and_false : (b : Bool) → (b && false) ≡ false
 and_false true = refl
@@ -43,6 +54,26 @@ and_false false = refl
 pub first_fits : (argument : Argument) (word : List ℕ) (rest : Option (List Passed)) → fits (passed_first argument word rest) ≡ (is_value (kind_of_value argument) word && fits rest)
 first_fits argument word None = sym (and_false (is_value (kind_of_value argument) word))
 first_fits argument word (Some rest) = refl
+
+-- a flag has what stands for its value
+flag_takes : (kind : ValueKind) → stands_alone kind ≡ true → is_value kind flag_value ≡ true
+flag_takes Name e = absurd (true≢false (sym e))
+flag_takes (Number least most) e = absurd (true≢false (sym e))
+flag_takes Scheme e = absurd (true≢false (sym e))
+flag_takes Flag e = refl
+
+pub alone_kind : (kind : ValueKind) → (kind ≡ Flag → ⊥) → stands_alone kind ≡ false
+alone_kind Name other = refl
+alone_kind (Number least most) other = refl
+alone_kind Scheme other = refl
+alone_kind Flag other = absurd (other refl)
+
+-- behind a flag's word nothing waits
+pub flag_fits : (operands options : List Argument) (word : List ℕ) (rest : List (List ℕ)) (option : Argument) → option_called options word ≡ Some option
+    → is_flag option ≡ true → fits (passed_by operands options rest) ≡ fits (passed_by operands options (word ∷ rest))
+flag_fits operands options word rest option e flag =
+    sym (ap fits (flag_step operands options word rest option e flag) ∙ first_fits option flag_value (passed_by operands options rest)
+    ∙ ap (λ t. t && fits (passed_by operands options rest)) (flag_takes (kind_of_value option) flag))
 
 no_operand : (options : List Argument) (word : List ℕ) (rest : List (List ℕ)) → option_called options word ≡ None → fits (passed_by [] options (word ∷ rest)) ≡ false
 no_operand options word rest e = ap fits (operand_step [] options word rest e)
@@ -57,7 +88,7 @@ pub none_left : (operands options : List Argument) (word : List ℕ) (rest : Lis
 none_left [] options word rest none e = sym (no_operand options word rest e)
 none_left (operand ∷ operands) options word rest none e = absurd (omega (arith, none))
 
-behind_first : {X : Type 0} (x : X) (xs : List X) → take (length (x ∷ xs) - 1) xs ≡ xs
+pub behind_first : {X : Type 0} (x : X) (xs : List X) → take (length (x ∷ xs) - 1) xs ≡ xs
 behind_first x xs = take_all _ xs (omega arith)
 
 pub first_left : (operands options : List Argument) (word : List ℕ) (rest : List (List ℕ)) (d : Argument) → 1 ≤ length operands → option_called options word ≡ None

@@ -35,10 +35,13 @@ kind_of_value Grow = Number 0 65536
 kind_of_value Seed = Number 0 4294967295
 kind_of_value Counts = Flag
 
+abbrev pub stands_alone : ValueKind → Bool
+stands_alone Flag = true
+stands_alone _ = false
+
 -- an option that stands alone, without a value
 abbrev pub is_flag : Argument → Bool
-is_flag Counts = true
-is_flag _ = false
+is_flag argument = stands_alone (kind_of_value argument)
 
 -- an option's word is two hyphens and its name
 abbrev pub is_option_word : Argument → List ℕ → Bool

@@ -1,12 +1,12 @@
 // What the words of a command line ask for.
 
-ghost use Rattle.std.specs.Prelude.{◌≡◌, ◌↔◌, List, [], map, Some, None, IfOk, Err, MatchOption, option_map, unwrap_or};
+ghost use Rattle.std.specs.Prelude.{◌≡◌, ◌↔◌, Bool, List, [], map, Some, None, IfOk, Err, MatchOption, option_map, unwrap_or};
 ghost use Rattle.std.specs.Option.{option_map_or};
 ghost use Rattle.std.specs.String.{string_bytes};
 ghost use Rattle.std.specs.Str.Parse.{digits_value};
 ghost use Rattle.spd_command.specs.Lines.{Passed};
 ghost use Rattle.spd_command.specs.Values.{scheme_called};
-ghost use Rattle.spd_command.specs.Found.{word_found, IsFound, MayBeNumber};
+ghost use Rattle.spd_command.specs.Found.{word_found, flag_found, IsFlagText, IsFound, MayBeNumber};
 ghost use Rattle.spd_command.specs.Asked.{asked_of, asked_by, name_in, settings_in, KeepsRanges, IsLine};
 ghost use Rattle.spd_command.specs.Seen.{asked};
 
@@ -100,6 +100,7 @@ fn scheme(found: &ArgMatches, argument: Argument, standard: Scheme) -> Scheme
 
 /// Whether an option that stands alone was found.
 fn flag(found: &ArgMatches, argument: Argument) -> bool
+    ensures { (given : Bool) → IsFlagText given (flag_found found.now argument) → result ≡ given }
 {
     found.get_flag(argument.name())
 }

@@ -21,7 +21,6 @@ pub(crate) struct Next {
 
 impl Next {
     /// What may stand behind a word, or none where the word may not stand here.
-    #[tactic(auto, using(crate::proofs::Testing::option_step))]
     fn behind(self, command: CommandName, word: &str) -> Option<Next>
         ensures { (rest : List (List ℕ)) → fits_behind result (options_of command) rest
             ≡ fits_from self.waiting self.operands.now (options_of command) (word.now ∷ rest) }
@@ -37,6 +36,9 @@ impl Next {
 
     /// The same of an option's word: its value, unless it stands alone.
     fn behind_option(self, option: Argument) -> Next
+        ensures { (options : List Argument) (word : List ℕ) (rest : List (List ℕ))
+            → option_called options word ≡ Some option
+            → fits_behind (Some result) options rest ≡ fits_from None self.operands.now options (word ∷ rest) }
     {
         let waiting = match option.kind() {
             ValueKind::Flag => None,

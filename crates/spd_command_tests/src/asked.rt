@@ -37,6 +37,7 @@ const fn run(
             tree,
             grow,
             seed,
+            counts: false,
         },
     }
 }

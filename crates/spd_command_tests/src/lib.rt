@@ -6,4 +6,6 @@ mod asked;
 #[cfg(test)]
 mod lines;
 #[cfg(test)]
+mod numbered;
+#[cfg(test)]
 mod refused;

@@ -110,15 +110,12 @@ static VALUES: [&[&str]; 25] = [
 ];
 
 /// Commands and options without a row.
-static NO_ROWS: [&[&str]; 9] = [
-    &["make", "3", "5"],
-    &["job", "3", "5"],
+static NO_ROWS: [&[&str]; 6] = [
     &["replay", "p1"],
     &["audit", "a.sp"],
     &["span", "d"],
     &["fold", "3", "5", "1"],
     &["room", "r"],
-    &["run", "a.sp", "--counts"],
     &["run", "a.sp", "--progress"],
 ];
 
