@@ -5,7 +5,7 @@ use Rattle.std.specs.Option.{option_map_or}
 use Rattle.spd_command.specs.declared.command_name.CommandName.{CommandName}
 use Rattle.spd_command.specs.Asked.{Asked, elide, check, make, run, job, asked_of, name_of, name_in}
 use Rattle.spd_top.specs.Told.{Bytes}
-use Rattle.spd_top.specs.Requests.{still_in, still_request_of, is_still}
+use Rattle.spd_top.specs.Requests.{Request, still_in, still_request_of, is_still}
 
 -- ---- a command without workers
 
@@ -22,3 +22,7 @@ still_named words name is = by_name (asked_of words) ∙ sym (ap (λ (n : Option
 
 pub still_none : (words : List Bytes) → None ≡ name_in words → false ≡ is_some (still_request_of words)
 still_none words is = ap (λ (n : Option CommandName). option_map_or is_still n false) is ∙ sym (by_name (asked_of words))
+
+pub none_asked : (request : Option Request) → is_some request ≡ false → request ≡ None
+none_asked None e = refl
+none_asked (Some request) e = absurd cc
