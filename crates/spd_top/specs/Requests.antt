@@ -40,11 +40,11 @@ still_in asked = Some (request_in asked)
 abbrev pub still_request_of : List Bytes → Option Request
 still_request_of words = option_and_then still_in (asked_of words)
 
--- A command of this name needs no workers.
-abbrev pub is_still : CommandName → Bool
-is_still name.Run = false
-is_still name.Job = false
-is_still _ = true
+-- A command of this name runs on workers.
+abbrev pub needs_workers : CommandName → Bool
+needs_workers name.Run = true
+needs_workers name.Job = true
+needs_workers _ = false
 
 -- ---- its parts
 

@@ -2,7 +2,7 @@
 
 ghost use Rattle.std.specs.Prelude.{◌≡◌, ◌≤◌, IfOk};
 ghost use Rattle.spd_io.specs.Shelf.{Holds};
-ghost use Rattle.spd_top.specs.BuiltIn.{job_files, job_shelf};
+ghost use Rattle.spd_top.specs.BuiltIn.{job_files, job_program, job_shelf};
 
 use spd_cols::make_csv;
 use spd_io::{Shelf, ShelfFault};
@@ -33,6 +33,14 @@ main {
 }
 ";
 
+/// The text of the built-in program.
+#[tactic(auto, unfolding(crate::specs::BuiltIn::job_program))]
+fn job_program() -> &'static [u8]
+    ensures { result.now ≡ job_program }
+{
+    JOB_PROGRAM
+}
+
 /// The built-in program and the file that it reads, which has so many rows and is made from a seed when it
 /// is read.
 #[derive(Drop)]
@@ -57,7 +65,7 @@ impl JobShelf {
     {
         match name {
             "job.sp" => {
-                let program = Vec::from_slice(alloc, JOB_PROGRAM)?;
+                let program = Vec::from_slice(alloc, job_program())?;
                 Ok(program)
             }
             "job.csv" => {

@@ -155,6 +155,9 @@ pub fn serve<R: Threads + Wait + Sync, F: Shelf, O: Sink, E: Sink, C: Coin, G: G
         LogsRun settings (request_of words.now) (shelf_for words.now (F.state shelf.old)).file log.old log.new }
     ensures unlogged { settings_asked words.now ≡ None → log.new ≡ log.old }
 {
+    if !words.ask_workers() {
+        return serve_still(alloc, words, shelf, out, err);
+    }
     match words.command(alloc) {
         Ok(Command::Run { program, settings }) => run(
             rt, alloc, program, settings, shelf, out, err, coins, gate, log,
@@ -167,7 +170,7 @@ pub fn serve<R: Threads + Wait + Sync, F: Shelf, O: Sink, E: Sink, C: Coin, G: G
             },
         ) => run_job(rt, alloc, rows, seed, settings, out, err, coins, gate, log),
         Err(CommandError::NoMemory) => out_of_memory(err),
-        Ok(_) => serve_still(alloc, words, shelf, out, err),
-        Err(CommandError::Refused) => serve_still(alloc, words, shelf, out, err),
+        Ok(_) => unreachable!(),
+        Err(CommandError::Refused) => unreachable!(),
     }
 }

@@ -4,7 +4,7 @@ ghost use Rattle.std.specs.Prelude.{◌≡◌, ◌↔◌, [], ◌∷◌, ◌++�
 ghost use Rattle.std.specs.String.{string_bytes};
 ghost use Rattle.spd_command.specs.Asked.{KeepsRanges, asked_of};
 ghost use Rattle.spd_command.specs.Seen.{asked};
-ghost use Rattle.spd_top.specs.Requests.{is_still, still_request_of};
+ghost use Rattle.spd_top.specs.Requests.{needs_workers, settings_asked, still_request_of};
 
 use spd_command::{Command, CommandError, CommandName, lawful_command, read_command};
 use std::alloc::{AllocError, Global};
@@ -53,11 +53,18 @@ impl Words {
         Ok(())
     }
 
-    /// Whether they are a line of a command that needs no workers. It takes no memory.
+    /// Whether they ask for a command on one thread. It takes no memory.
     pub(crate) fn ask_still(&self) -> bool
         ensures { result ≡ is_some (still_request_of self.now) }
     {
         ask_still_in(self.words.as_slice())
+    }
+
+    /// Whether they ask for workers. It takes no memory.
+    pub(crate) fn ask_workers(&self) -> bool
+        ensures { result ≡ is_some (settings_asked self.now) }
+    {
+        ask_workers_in(self.words.as_slice())
     }
 
     /// What they ask for. `Refused` comes exactly where they are no command line, whatever memory there is.
@@ -70,23 +77,34 @@ impl Words {
     }
 }
 
-/// Whether words ask for a command that needs no workers.
+/// Whether words ask for a command on one thread.
 #[tactic(auto, using(crate::proofs::Asking::still_named, crate::proofs::Asking::still_none))]
 fn ask_still_in(words: &[String]) -> bool
     ensures { result ≡ is_some (still_request_of (map string_bytes words.now)) }
 {
     match lawful_command(words) {
-        Some(name) => is_still(name),
+        Some(name) => !needs_workers(name),
         None => false,
     }
 }
 
-/// Whether a command needs no workers.
-fn is_still(name: CommandName) -> bool
-    ensures { result ≡ is_still name }
+/// Whether words ask for workers.
+#[tactic(auto, using(crate::proofs::Asking::workers_named, crate::proofs::Asking::workers_none))]
+fn ask_workers_in(words: &[String]) -> bool
+    ensures { result ≡ is_some (settings_asked (map string_bytes words.now)) }
+{
+    match lawful_command(words) {
+        Some(name) => needs_workers(name),
+        None => false,
+    }
+}
+
+/// Whether the command of a name runs on workers.
+fn needs_workers(name: CommandName) -> bool
+    ensures { result ≡ needs_workers name }
 {
     match name {
-        CommandName::Elide | CommandName::Check | CommandName::Make => true,
-        CommandName::Run | CommandName::Job => false,
+        CommandName::Run | CommandName::Job => true,
+        CommandName::Elide | CommandName::Check | CommandName::Make => false,
     }
 }

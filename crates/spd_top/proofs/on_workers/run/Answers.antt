@@ -7,8 +7,9 @@ use Rattle.spd_run.specs.JobLogs.{with_jobs}
 use Rattle.spd_spine.specs.Walk.{main_eval}
 use Rattle.spd_top.specs.declared.words.SerialCommand.TheVariants.{Elide}
 use Rattle.spd_top.specs.Requests.{over, counts_for}
+use Rattle.spd_top.specs.Rising.{counts_told}
 use Rattle.spd_top.specs.Serving.{Answer}
-use Rattle.spd_top.proofs.Ended.{end_answers, end_logs}
+use Rattle.spd_top.proofs.Ended.{end_answers, end_logs, rise_tells}
 use Rattle.spd_top.proofs.on_workers.run.Goals as goal
 
 pub returns-in-Err-clause-answer : goal.returns-in-Err-clause-answer
@@ -27,4 +28,32 @@ pub returns-clause-others : goal.returns-clause-others
 returns-clause-others g c = (c.in-Ok.ensures.loaded (counts_for c.args.settings)).others
 
 pub returns-clause-answer : goal.returns-clause-answer
-returns-clause-answer g c = let a = c.in-Ok.ensures in let b = c.type_inv in ?
+returns-clause-answer g c =
+    let counts = counts_for c.args.settings in
+    let old = g.F.Shelf.state c.args.shelf.now in
+    let new = g.F.Shelf.state c.load_program.new.shelf in
+    let out = g.O.Sink.state c.args.out.now in
+    let out' = g.O.Sink.state c.run_main_on_workers-ended.new.out in
+    let err = g.E.Sink.state c.load_program.new.err in
+    let err' = g.E.Sink.state c.tell_end.new.err in
+    let jobs = jobs_of (main_eval (context_of c.tree.result.now c.in-Ok.program.columns)).given in
+    subst (λ e. Answer (Some (over Elide c.args.name.now counts)) old new out out' (g.E.Sink.state e) err' c.tell_end.result) c.in-Ok.ensures.untold
+    (end_answers counts c.args.name.now c.in-Ok.program.code c.tree.result.now c.in-Ok.program.columns old new (c.in-Ok.ensures.loaded counts) c.tree.ensures.meaning
+    c.run_main_on_workers-ended.result out out' err err' c.tell_end.result c.run_main_on_workers-ended.ensures.all c.run_main_on_workers-ended.ensures.end
+    c.run_main_on_workers-ended.ensures.front c.run_main_on_workers-ended.ensures.cause c.run_main_on_workers-ended.ensures.kept
+    (rise_tells c.args.settings jobs c.args.log.now c.run_main_on_workers-ended.new.log (let t = c.of-before.type_inv in ?) ?
+    c.args.name.now c.run_main_on_workers-ended.result err err' c.tell_end.result
+    (subst (λ (plan : PlanView). OnOk c.run_main_on_workers-ended.result (c.run_main_on_workers-ended.new.log ≡ with_jobs plan c.args.log.now jobs)) c.in-Ok-new.ensures.ok
+    c.run_main_on_workers-ended.ensures.log)
+    ?))
+
+pub returns-clause-log : goal.returns-clause-log
+returns-clause-log g c = λ ends.
+    let counts = counts_for c.args.settings in
+    let old = g.F.Shelf.state c.args.shelf.now in
+    let new = g.F.Shelf.state c.load_program.new.shelf in
+    let jobs = jobs_of (main_eval (context_of c.tree.result.now c.in-Ok.program.columns)).given in
+    end_logs counts c.args.name.now c.in-Ok.program.code c.tree.result.now c.in-Ok.program.columns old new (c.in-Ok.ensures.loaded counts) c.tree.ensures.meaning c.args.settings c.args.log.now
+    c.run_main_on_workers-ended.new.log (counts_told c.risen_in-counts.result) c.run_main_on_workers-ended.result (g.E.Sink.state c.load_program.new.err) (g.E.Sink.state c.tell_end.new.err) c.tell_end.result
+    (subst (λ (plan : PlanView). OnOk c.run_main_on_workers-ended.result (c.run_main_on_workers-ended.new.log ≡ with_jobs plan c.args.log.now jobs)) c.in-Ok-new.ensures.ok
+    c.run_main_on_workers-ended.ensures.log) c.tell_end.ensures ends

@@ -2,11 +2,11 @@
 use Rattle.std.proofs.Common.{◌≡◌, ◌∙◌, Option, Some, None, List, Bool, false, arith, ap, sym, subst, refl}
 use Rattle.std.specs.Prelude.{is_some, option_and_then}
 use Rattle.spd_cols.specs.Made.{made_csv}
-use Rattle.spd_command.specs.Asked.{Asked}
+use Rattle.spd_command.specs.declared.command.Command.TheVariants.{Make}
 use Rattle.spd_top.specs.Requests.{Request, made_file, still_in, still_request_of}
 use Rattle.spd_top.specs.Told.{bytes_alone}
 use Rattle.spd_top.specs.Serving.{words_refused, refused, made}
-use Rattle.spd_top.proofs.Asking.{none_asked}
+use Rattle.spd_top.proofs.Asking.{none_asked, asked_is}
 use Rattle.spd_top.proofs.Answering.{said, wanted, has_told}
 use Rattle.spd_top.proofs.serving.serve_still.Goals as goal
 
@@ -17,7 +17,8 @@ returns-then-not-ask_still-clause-answer g c =
 
 pub returns-in-Ok-Make-clause-answer : goal.returns-in-Ok-Make-clause-answer
 returns-in-Ok-Make-clause-answer g c =
-    let asked : still_request_of c.args.words.now ≡ Some (made_file c.in-Ok-Make.rows c.in-Ok-Make.seed) = ap (option_and_then still_in) (sym c.in-Ok-Make.ensures.read) in
+    let asked : still_request_of c.args.words.now ≡ Some (made_file c.in-Ok-Make.rows c.in-Ok-Make.seed) =
+    ap (option_and_then still_in) (sym (asked_is c.args.words.now c.in-Ok-Make.field-0 (Make c.in-Ok-Make.rows c.in-Ok-Make.seed) c.in-Ok-Make.ensures.read c.in-Ok-Make.field-0-is)) in
     has_told (still_request_of c.args.words.now) _ _ (bytes_alone (made_csv c.in-Ok-Make.rows c.in-Ok-Make.seed)) (g.O.Sink.state c.args.out.now) (g.O.Sink.state c.make.new.out)
     (g.E.Sink.state c.args.err.now) (g.E.Sink.state c.make.new.err) c.make.result (made c.in-Ok-Make.rows c.in-Ok-Make.seed asked) (λ e. omega arith) c.make.ensures
 
