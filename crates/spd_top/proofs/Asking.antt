@@ -1,5 +1,5 @@
 -- What words ask for, by the command that is read of them.
-use Rattle.std.proofs.Common.{◌≡◌, ◌≢◌, ◌∙◌, List, Option, Some, None, Bool, false, refl, sym, ap}
+use Rattle.std.proofs.Common.{◌≡◌, ◌≢◌, ◌∙◌, List, Option, Some, None, Bool, false, refl, sym, ap, subst}
 use Rattle.std.specs.Prelude.{is_some, not, option_map, option_and_then}
 use Rattle.std.specs.Option.{option_map_or}
 use Rattle.spd_io.specs.Shelf.{ShelfState}
@@ -73,7 +73,17 @@ module _ (words : List Bytes) (none : settings_asked words ≡ None) where
   pub shelf_still : (shelf : ShelfState) → shelf ≡ shelf_for words shelf
   shelf_still shelf = shelf_without (asked_of words) shelf none
 
+  pub still_answers : (P : Option Request → ShelfState → ShelfState → Type 0) (shelf shelf' : ShelfState) → P (still_request_of words) shelf shelf'
+      → P (request_of words) (shelf_for words shelf) (shelf_for words shelf')
+  still_answers P shelf shelf' h =
+      subst (λ (z : ShelfState). P (request_of words) (shelf_for words shelf) z) (shelf_still shelf')
+      (subst (λ (z : ShelfState). P (request_of words) z shelf') (shelf_still shelf) (subst (λ (r : Option Request). P r shelf shelf') request_still h))
+
 -- ---- a command that was read
 
 pub asked_is : (words : List Bytes) (read is : Command) → Some (asked read) ≡ asked_of words → read ≡ is → Some (asked is) ≡ asked_of words
 asked_is words read is same e = sym (ap (λ (command : Command). Some (asked command)) e) ∙ same
+
+pub one_settings : (words : List Bytes) (read : Asked) (a b : Settings) → Some read ≡ asked_of words → settings_of read ≡ Some a → settings_asked words ≡ Some b → a ≡ b
+one_settings words read a b is has asks =
+    let same : ◌≡◌ {A = Option Settings} (Some a) (Some b) = sym has ∙ ap (option_and_then settings_of) is ∙ asks in cc

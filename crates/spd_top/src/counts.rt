@@ -1,6 +1,6 @@
 // How much a run adds to the counts of a log.
 
-ghost use Rattle.std.specs.Prelude.{◌≡◌, if◌then◌else◌, Some, None};
+ghost use Rattle.std.specs.Prelude.{◌≡◌, ◌<◌, ◌^◌, if◌then◌else◌, Some, None};
 ghost use Rattle.spd_top.specs.Rising.{counts_of, risen};
 
 use spd_work::RunLog;
@@ -15,7 +15,8 @@ pub(crate) struct RegionCounts {
 impl RegionCounts {
     /// Those of a log.
     pub(crate) fn of(log: &RunLog) -> RegionCounts
-        ensures { result ≡ counts_of log.now }
+        ensures counts { result ≡ counts_of log.now }
+        ensures fits { (result.regions < 2 ^ 64) × (result.moves < 2 ^ 64) }
     {
         RegionCounts {
             regions: log.regions(),
