@@ -40,6 +40,19 @@ SHEET = b'''column p: int from "%(file)s" field "Price, net"; column t: text fro
 main { print len(p), " ", p[0], " ", p[1], " ", p[0] + p[1]; if begins(t, 0, "A \\"g") == 0 { print 0; } }
 '''
 
+# The 10th number of Fibonacci, by a call that has 88 finishes, each with an async.
+FIBONACCI = b"""fn fib(n) {
+  if n < 2 { return n; }
+  let r = finish sum {
+    async { let a = fib(n - 1); offer a; }
+    let b = fib(n - 2);
+    offer b;
+  }
+  return r;
+}
+main { let x = fib(10); print x; }
+"""
+
 FILES = {
     b"a.sp": b'main { print "n=", 1+2; }\n',
     b"blank.sp ": b"main { print 4; }\n",
@@ -73,6 +86,11 @@ FILES = {
     b"closed.sp": b"main { print 1; }\n",
     b"of_closed.sp": b'lines l from "closed.txt"; main { print 1; }\n',
     b"closed.txt": b"a\n",
+    b"fib.sp": FIBONACCI,
+    b"counted.sp": b"main {\n finish { async { } }\n print 1;\n let z = 0;\n print 1 / z;\n}\n",
+    # A job has files of its own, and doesn't read these.
+    b"job.sp": b"main { print 0; }\n",
+    b"job.csv": b"id,price,name\n0,1000000,item-0\n",
 }
 
 # Files that only their owner could open, who may not read them.
@@ -95,6 +113,22 @@ FILES |= {os.fsencode(it.name): it.read_bytes() for it in pathlib.Path("examples
 # reads, a pipe that is read in small parts while the program is stopped and goes on, a file, or a
 # file that has bytes, behind which it writes.
 PIPE, CLOSED, FULL, GONE, SLOW, FILE, APPENDED = "pipe closed full gone slow file appended".split()
+
+# Made files, by the rule for their rows. The largest is 18,675,804 bytes long: 14 of the header, 8 of each row beside its
+# three numbers, and 5,888,890 digits of the ids, 2,890,000 of the prices and 1,896,900 of the items' numbers.
+def made(rows, seed):
+    """A header, and a row i with a price and one of 97 items."""
+    return b"id,price,name\n" + b"".join(b"%d,%d,item-%d\n" % (i, (i * 7919 + seed) % 1000, i % 97) for i in range(rows))
+
+
+THREE_ROWS = b"id,price,name\n0,5,item-0\n1,924,item-1\n2,843,item-2\n"
+LARGEST = made(1_000_000, 4_294_967_295)
+assert made(3, 5) == THREE_ROWS
+assert len(LARGEST) == 18_675_804 and LARGEST.endswith(b"\n999999,376,item-26\n")
+
+# The prices of five rows from seed 1 are 1, 920, 839, 758 and 677, and those of a thousand from seed 5 the numbers below 1,000.
+OF_FIVE = b"rows 5\nsum 3195\nleast 1\ngreatest 920\n"
+OF_THOUSAND = b"rows 1000\nsum 499500\nleast 0\ngreatest 999\n"
 
 BEFORE = b"before\n"
 THREE = b"first\nsecond\nthird\n"
@@ -272,6 +306,61 @@ ROWS += [
     Row("an option without its value", [b"run", b"sums.sp", b"--workers"], 2, err=REFUSED),
     Row("an option twice", [b"run", b"sums.sp", b"--seed", b"1", b"--seed", b"1"], 2, err=REFUSED),
     Row("workers for an elision", [b"elide", b"sums.sp", b"--workers", b"1"], 2, err=REFUSED),
+    # Made files.
+    Row("a made file", [b"make", b"3", b"5"], 0, THREE_ROWS),
+    Row("a made file of no row", [b"make", b"0", b"5"], 0, b"id,price,name\n"),
+    Row("the largest made file", [b"make", b"1000000", b"4294967295"], 0, LARGEST),
+    Row("a made file that is taken in parts", [b"make", b"10000", b"1"], 0, made(10_000, 1), out_is=SLOW),
+    Row("a made file into a file", [b"make", b"3", b"5"], 0, THREE_ROWS, out_is=FILE),
+    Row("a file a byte too small for a made one", [b"make", b"3", b"5"], 5, THREE_ROWS[:-1], NOT_WRITTEN, out_is=FILE, most_bytes=len(THREE_ROWS) - 1),
+    Row("a row too many", [b"make", b"1000001", b"1"], 2, err=REFUSED),
+    Row("a made file without a seed", [b"make", b"1"], 2, err=REFUSED),
+    Row("less than no row", [b"make", b"-1", b"1"], 2, err=REFUSED),
+    Row("a seed too great", [b"make", b"1", b"4294967296"], 2, err=REFUSED),
+    Row("counts of a made file", [b"make", b"1", b"1", b"--counts"], 2, err=REFUSED),
+    Row("a made file and a full output", [b"make", b"3", b"5"], 5, err=NOT_WRITTEN, out_is=FULL),
+    Row("a made file and an output that nobody reads", [b"make", b"1000000", b"1"], 5, err=NOT_WRITTEN, out_is=GONE),
+    Row("a made file and a full error stream", [b"make", b"3", b"5"], 0, THREE_ROWS, err_is=FULL),
+    Row("a made file and two full streams", [b"make", b"3", b"5"], 5, out_is=FULL, err_is=FULL),
+    Row("a refused made file and a full error stream", [b"make", b"1"], 5, err_is=FULL),
+    # Jobs.
+    Row("a job in a folder with such files", [b"job", b"5", b"1"], 0, OF_FIVE),
+    Row("a job on one worker", [b"job", b"--workers", b"1", b"5", b"--seed", b"7", b"1"], 0, OF_FIVE),
+    Row("a job of no row", [b"job", b"0", b"5"], 0, b"rows 0\nsum 0\nleast 9223372036854775807\ngreatest -9223372036854775808\n"),
+    Row("a large job", [b"job", b"100000", b"5"], 0, b"rows 100000\nsum 49950000\nleast 0\ngreatest 999\n"),
+    Row("a job of a row too many", [b"job", b"1000001", b"1"], 2, err=REFUSED),
+    Row("a job of a file", [b"job", b"a.sp"], 2, err=REFUSED),
+    Row("a job without a seed", [b"job", b"5"], 2, err=REFUSED),
+    Row("a job and a full output", [b"job", b"5", b"1", b"--counts"], 5, err=NOT_WRITTEN, out_is=FULL),
+    Row("a job into a file that is too small", [b"job", b"5", b"1", b"--counts"], 5, OF_FIVE[:20], NOT_WRITTEN, out_is=FILE, most_bytes=20),
+    # Counts.
+    Row("counts", [b"run", b"fib.sp", b"--counts"], 0, b"55\n", b"spd: regions 1, moves 177\n"),
+    Row("counts on one worker", [b"run", b"--counts", b"fib.sp", b"--workers", b"1"], 0, b"55\n", b"spd: regions 1, moves 177\n"),
+    Row("counts within one move", [b"run", b"fib.sp", b"--counts", b"--moves", b"1"], 0, b"55\n", b"spd: regions 1, moves 1\n"),
+    Row("counts of no job", [b"run", b"a.sp", b"--counts"], 0, b"n=3\n", b"spd: regions 0, moves 0\n"),
+    Row("counts before a fault", [b"run", b"counted.sp", b"--counts"], 3, b"1\n", b"spd: counted.sp:5: division by zero\n"),
+    Row("counts of a refused program", [b"run", b"stray.sp", b"--counts"], 1, err=b"spd: stray.sp:2: Unknown\n"),
+    Row("counts of a missing file", [b"run", b"missing.sp", b"--counts"], 4, err=b"spd: missing.sp: read failed\n"),
+    Row("counts and a closed error stream", [b"run", b"fib.sp", b"--counts"], 5, b"55\n", err_is=CLOSED),
+    Row("counts and a full error stream", [b"run", b"fib.sp", b"--counts"], 5, b"55\n", err_is=FULL),
+    Row("a job's counts and an error stream that nobody reads", [b"job", b"5", b"1", b"--counts"], 5, OF_FIVE, err_is=GONE),
+    Row("a limit in the line of counts", [b"run", b"fib.sp", b"--counts"], 5, b"55\n", b"spd: regions", err_is=FILE, most_bytes=12),
+    Row("counts and a full output", [b"run", b"fib.sp", b"--counts"], 5, err=NOT_WRITTEN, out_is=FULL),
+    Row("counts twice", [b"run", b"fib.sp", b"--counts", b"--counts"], 2, err=REFUSED),
+    Row("counts with a value", [b"run", b"fib.sp", b"--counts=1"], 2, err=REFUSED),
+    Row("counts of an elision", [b"elide", b"fib.sp", b"--counts"], 2, err=REFUSED),
+]
+# A job's sums by halves over 1,000 prices have 999 asyncs each, and a move of their own.
+ROWS += [
+    Row(
+        f"a counted job by {workers} workers within {moves} moves",
+        [b"job", b"1000", b"5", b"--counts", b"--workers", b"%d" % workers, b"--moves", b"%d" % moves],
+        0,
+        OF_THOUSAND,
+        b"spd: regions 3, moves %d\n" % (3 * min(moves, 1000)),
+    )
+    for workers in (1, 2, 8, 64)
+    for moves in (1, 100, 16_384)
 ]
 
 

@@ -4,6 +4,8 @@
 #[cfg(test)]
 mod arguments;
 #[cfg(test)]
+mod counts;
+#[cfg(test)]
 mod logs;
 #[cfg(test)]
 mod options;

@@ -39,10 +39,12 @@ const PRINTED: Answer<'static> = (b"51\n", b"", 0);
 
 const FAULTED: Answer<'static> = (b"", b"spd: fault.sp:3: division by zero\n", 3);
 
+const OF_JOB: Answer<'static> = (b"rows 5\nsum 3195\nleast 1\ngreatest 920\n", b"", 0);
+
 /// Words, what is answered, and by how much the regions and the moves rise, worked out by hand.
 type LogRow = (&'static [&'static str], Answer<'static>, u64, u64);
 
-static ROWS: [LogRow; 10] = [
+static ROWS: [LogRow; 13] = [
     (&["run", "three.sp"], PRINTED, 3, 6),
     (&["run", "three.sp", "--workers", "64"], PRINTED, 3, 6),
     (&["run", "three.sp", "--moves", "3"], PRINTED, 3, 6),
@@ -51,7 +53,11 @@ static ROWS: [LogRow; 10] = [
     (&["run", "fault.sp"], FAULTED, 2, 5),
     (&["run", "fault.sp", "--moves", "2"], FAULTED, 2, 4),
     (&["run", "none.sp"], (b"7\n", b"", 0), 0, 0),
+    // Each of three sums by halves over five prices has four asyncs.
+    (&["job", "5", "1"], OF_JOB, 3, 15),
+    (&["job", "5", "1", "--moves", "2"], OF_JOB, 3, 6),
     (&["elide", "three.sp"], PRINTED, 0, 0),
+    (&["make", "0", "1"], (b"id,price,name\n", b"", 0), 0, 0),
     (
         &["run", "three.sp", "--moves", "0"],
         (b"", b"spd: words refused\n", 2),
@@ -88,8 +94,8 @@ fn a_log_is_told_of_each_job(rt: HostRuntime) -> Result<(), Fail> {
     for row in ROWS {
         expect_logged(&rt, alloc, &mut shelf, row, &mut log)?;
     }
-    assert_eq!(&rt; log.regions(), 19);
-    assert_eq!(&rt; log.moves(), 35);
+    assert_eq!(&rt; log.regions(), 25);
+    assert_eq!(&rt; log.moves(), 56);
     Ok(())
 }
 

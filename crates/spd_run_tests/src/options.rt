@@ -36,7 +36,7 @@ static REFUSED: [&[&str]; 22] = [
     &["run", "a.sp", "--grow", "65537"],
     &["run", "a.sp", "--seed", "4294967296"],
     &["run", "a.sp", "--seed", "00000000001"],
-    &["run", "a.sp", "--counts"],
+    &["run", "a.sp", "--counts", "--counts"],
     &["elide", "a.sp", "--workers", "1"],
     &["check", "a.sp", "--seed", "1"],
 ];

@@ -20,6 +20,8 @@ mod jobs;
 #[cfg(test)]
 mod limits;
 #[cfg(test)]
+mod making;
+#[cfg(test)]
 mod programs;
 #[cfg(test)]
 mod refused;

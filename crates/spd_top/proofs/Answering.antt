@@ -2,6 +2,7 @@
 use Rattle.std.proofs.Common.{◌≡◌, ◌≢◌, ◌<◌, ℕ, [], Option, codes, ◌⊎◌, inl, inr, refl, ap, ◌∙◌, arith}
 use Rattle.spd_io.specs.Shelf.{FileTold, ShelfState}
 use Rattle.spd_io.specs.Sink.{SinkState, Failed, SameFaults}
+use Rattle.spd_meaning.specs.Acts.{jobs_of}
 use Rattle.spd_meaning.specs.Eval as eval
 use Rattle.spd_meaning.specs.Eval.{Fell, Back, Fault}
 use Rattle.spd_meaning.specs.Programs.{main_meaning}
@@ -9,11 +10,11 @@ use Rattle.spd_meaning.specs.Printed.{printed}
 use Rattle.spd_level.specs.Columns.{columns_in}
 use Rattle.spd_top.specs.declared.words.SerialCommand.{SerialCommand}
 use Rattle.spd_top.specs.declared.words.SerialCommand.TheVariants.{Elide, Check}
-use Rattle.spd_top.specs.Requests.{Request}
+use Rattle.spd_top.specs.Requests.{Request, counts_asked}
 use Rattle.spd_top.specs.Built.{TextOutcome, lex_fault, parse_fault, check_fault, passes}
 use Rattle.spd_top.specs.DataFiles.{DataOutcome, columns_loaded, file_unread, file_refused}
-use Rattle.spd_top.specs.Told.{Bytes, of_file, Told, end_told, told_of}
-use Rattle.spd_top.specs.Serving.{IsUnread, Outcome, refused, missing, too_long, of_text, GetsOrFails, Says, WantsMemory, Tells, took, out_stopped, err_stopped, memory_stopped, Answer, as_defined, unread, out_failed, err_failed, no_memory, no_more_memory}
+use Rattle.spd_top.specs.Told.{Bytes, of_file, counts_line, Told, end_told, told_of}
+use Rattle.spd_top.specs.Serving.{IsUnread, Outcome, refused, made, missing, too_long, of_text, GetsOrFails, Says, WantsMemory, Tells, took, out_stopped, err_stopped, memory_stopped, Answer, as_defined, unread, out_failed, err_failed, no_memory, no_more_memory}
 use Rattle.spd_top.proofs.Putting.{takes_nothing}
 
 module _ (request : Option Request) (shelf shelf' : ShelfState) (out err err' : SinkState) where
@@ -47,28 +48,30 @@ has_told request shelf shelf' t out out' err err' result outcome other (memory_s
 
 -- ---- a status tells what failed
 
-told_elsewhere : (command : SerialCommand) (name : Bytes) (outcome : TextOutcome) (came : DataOutcome) → (told_of command name outcome came).status ≢ 5
-told_elsewhere command name (lex_fault fault) came h = cc
-told_elsewhere command name (parse_fault fault) came h = cc
-told_elsewhere command name (check_fault fault) came h = cc
-told_elsewhere Check name (passes tree) came h = cc
-told_elsewhere Elide name (passes tree) (file_unread file) h = cc
-told_elsewhere Elide name (passes tree) (file_refused file fault) h = cc
-told_elsewhere Elide name (passes tree) (columns_loaded columns) h =
-    by_end (main_meaning tree.items (columns_in tree.items columns)).end (printed (main_meaning tree.items (columns_in tree.items columns)).given) h
+told_elsewhere : (counts : Option ℕ) (command : SerialCommand) (name : Bytes) (outcome : TextOutcome) (came : DataOutcome) → (told_of counts command name outcome came).status ≢ 5
+told_elsewhere counts command name (lex_fault fault) came h = cc
+told_elsewhere counts command name (parse_fault fault) came h = cc
+told_elsewhere counts command name (check_fault fault) came h = cc
+told_elsewhere counts Check name (passes tree) came h = cc
+told_elsewhere counts Elide name (passes tree) (file_unread file) h = cc
+told_elsewhere counts Elide name (passes tree) (file_refused file fault) h = cc
+told_elsewhere counts Elide name (passes tree) (columns_loaded columns) h =
+    by_end (counts_line counts (jobs_of (main_meaning tree.items (columns_in tree.items columns)).given))
+    (main_meaning tree.items (columns_in tree.items columns)).end (printed (main_meaning tree.items (columns_in tree.items columns)).given) h
   where
-    by_end : {A : Type 0} (e : eval.End A) (bytes : Bytes) → (end_told name e bytes).status ≢ 5
-    by_end (Fell vars) bytes h = cc
-    by_end (Back value) bytes h = cc
-    by_end (Fault code) bytes h = cc
+    by_end : {A : Type 0} (line : Bytes) (e : eval.End A) (bytes : Bytes) → (end_told line name e bytes).status ≢ 5
+    by_end line (Fell vars) bytes h = cc
+    by_end line (Back value) bytes h = cc
+    by_end line (Fault code) bytes h = cc
 
 -- No outcome has the status of a sink that failed.
 outcome_elsewhere : (request : Option Request) (file : Bytes → FileTold) (status : ℕ) (bytes line : Bytes) → Outcome request file status bytes line → status ≢ 5
 outcome_elsewhere request file status bytes line (refused e) h = absurd (omega arith)
+outcome_elsewhere request file status bytes line (made rows seed e) h = absurd (omega arith)
 outcome_elsewhere request file status bytes line (missing n d m) h = absurd (omega arith)
 outcome_elsewhere request file status bytes line (too_long n d m) h = absurd (omega arith)
 outcome_elsewhere request file status bytes line (of_text command name outcome came s z l reads data_read told) h =
-    told_elsewhere command name outcome came (ap (λ (t : Told). t.status) told ∙ h)
+    told_elsewhere (counts_asked request) command name outcome came (ap (λ (t : Told). t.status) told ∙ h)
 
 module _ (request : Option Request) (shelf shelf' : ShelfState) (out out' err err' : SinkState) where
   pub answer_writes : (result : ℕ) → Answer request shelf shelf' out out' err err' result → result ≡ 5 → Failed out out' ⊎ Failed err err'

@@ -1,74 +1,89 @@
--- What words ask for, by the name of their command.
-use Rattle.std.proofs.Common.{◌≡◌, ◌≢◌, ◌∙◌, List, Option, Some, None, true, refl, sym, ap}
-use Rattle.std.specs.Prelude.{is_some, option_map, option_and_then}
+-- What words ask for, by the command that is read of them.
+use Rattle.std.proofs.Common.{◌≡◌, ◌≢◌, ◌∙◌, List, Option, Some, None, Bool, false, refl, sym, ap, subst}
+use Rattle.std.specs.Prelude.{is_some, not, option_map, option_and_then}
+use Rattle.std.specs.Option.{option_map_or}
+use Rattle.spd_io.specs.Shelf.{ShelfState}
 use Rattle.spd_command.specs.declared.command_name.CommandName.{CommandName}
-use Rattle.spd_command.specs.declared.command_name.CommandName.TheVariants as name
+use Rattle.spd_command.specs.declared.command.Command.{Command}
 use Rattle.spd_command.specs.declared.settings.Settings.{Settings}
-use Rattle.spd_command.specs.Asked.{Asked, elide, check, run, asked_of, name_of, name_in}
-use Rattle.spd_top.specs.declared.words.SerialCommand.{SerialCommand}
-use Rattle.spd_top.specs.declared.words.SerialCommand.TheVariants.{Elide}
+use Rattle.spd_command.specs.Asked.{Asked, elide, check, make, run, job, asked_of, name_of, name_in}
+use Rattle.spd_command.specs.Seen.{asked}
+use Rattle.spd_top.specs.BuiltIn.{shelf_in, shelf_for}
 use Rattle.spd_top.specs.Told.{Bytes}
-use Rattle.spd_top.specs.Requests.{Request, request_for, request_in, request_of, AskRun, still_in, still_request_of, command_asked, program_asked, serial_of}
+use Rattle.spd_top.specs.Requests.{Request, request_in, request_of, still_in, still_request_of, needs_workers, settings_of, settings_asked}
 
--- ---- a command on one thread
+-- ---- whether they ask for workers
 
-by_name : (asked : Option Asked) → command_asked (option_and_then still_in asked) ≡ option_and_then serial_of (option_map name_of asked)
-by_name None = refl
-by_name (Some (elide program)) = refl
-by_name (Some (check program)) = refl
-by_name (Some (run program settings)) = refl
+still_by_name : (asks : Option Asked) → is_some (option_and_then still_in asks) ≡ option_map_or (λ name. not (needs_workers name)) (option_map name_of asks) false
+still_by_name None = refl
+still_by_name (Some (elide program)) = refl
+still_by_name (Some (check program)) = refl
+still_by_name (Some (make rows seed)) = refl
+still_by_name (Some (run program settings)) = refl
+still_by_name (Some (job rows seed settings)) = refl
 
-pub serial_named : (words : List Bytes) (name : CommandName) → Some name ≡ name_in words → command_asked (still_request_of words) ≡ serial_of name
-serial_named words name is = by_name (asked_of words) ∙ sym (ap (option_and_then serial_of) is)
+workers_by_name : (asks : Option Asked) → is_some (option_and_then settings_of asks) ≡ option_map_or needs_workers (option_map name_of asks) false
+workers_by_name None = refl
+workers_by_name (Some (elide program)) = refl
+workers_by_name (Some (check program)) = refl
+workers_by_name (Some (make rows seed)) = refl
+workers_by_name (Some (run program settings)) = refl
+workers_by_name (Some (job rows seed settings)) = refl
 
-pub serial_none : (words : List Bytes) → None ≡ name_in words → None ≡ command_asked (still_request_of words)
-serial_none words is = ap (option_and_then serial_of) is ∙ sym (by_name (asked_of words))
+module _ (words : List Bytes) where
+  pub still_named : (name : CommandName) → Some name ≡ name_in words → is_some (still_request_of words) ≡ not (needs_workers name)
+  still_named name is = still_by_name (asked_of words) ∙ sym (ap (λ (n : Option CommandName). option_map_or (λ name. not (needs_workers name)) n false) is)
 
--- ---- a request and its parts
+  pub still_none : None ≡ name_in words → false ≡ is_some (still_request_of words)
+  still_none is = ap (λ (n : Option CommandName). option_map_or (λ name. not (needs_workers name)) n false) is ∙ sym (still_by_name (asked_of words))
 
-pub has_request : (request : Option Request) (command : SerialCommand) → command_asked request ≡ Some command → is_some request ≡ true
-has_request None command e = let wrong : ◌≡◌ {A = Option SerialCommand} None (Some command) = e in cc
-has_request (Some asked) command e = refl
+  pub workers_named : (name : CommandName) → Some name ≡ name_in words → is_some (settings_asked words) ≡ needs_workers name
+  workers_named name is = workers_by_name (asked_of words) ∙ sym (ap (λ (n : Option CommandName). option_map_or needs_workers n false) is)
 
-pub no_request : (request : Option Request) → command_asked request ≡ None → request ≡ None
-no_request None e = refl
-no_request (Some asked) e = let wrong : ◌≡◌ {A = Option SerialCommand} (Some asked.command) None = e in absurd cc
+  pub workers_none : None ≡ name_in words → false ≡ is_some (settings_asked words)
+  workers_none is = ap (λ (n : Option CommandName). option_map_or needs_workers n false) is ∙ sym (workers_by_name (asked_of words))
 
-pub request_is : (request : Option Request) (command : SerialCommand) (name : Bytes) → command_asked request ≡ Some command → program_asked request ≡ Some name → request ≡ Some (request_for command name)
-request_is None command name c p = let wrong : ◌≡◌ {A = Option SerialCommand} None (Some command) = c in absurd cc
-request_is (Some asked) command name c p =
-    let same : ◌≡◌ {A = Option SerialCommand} (Some asked.command) (Some command) = c in
-    let named : ◌≡◌ {A = Option Bytes} (Some asked.program) (Some name) = p in
-    let (x, y) : (asked.command ≡ command) × (asked.program ≡ name) = (cc, cc) in
-    rw (x, y) refl
+pub none_asked : {A : Type 0} (o : Option A) → is_some o ≡ false → o ≡ None
+none_asked None e = refl
+none_asked (Some x) e = absurd cc
 
--- ---- a run
+-- ---- what is asked for where no workers are
 
-still_without : (asked : Option Asked) → (option_map name_of asked ≡ Some name.Run → ⊥) → option_and_then still_in asked ≡ option_map request_in asked
-still_without None other = refl
-still_without (Some (elide program)) other = refl
-still_without (Some (check program)) other = refl
-still_without (Some (run program settings)) other = absurd (other refl)
+still_without : (asks : Option Asked) → option_and_then settings_of asks ≡ None → option_and_then still_in asks ≡ option_map request_in asks
+still_without None none = refl
+still_without (Some (elide program)) none = refl
+still_without (Some (check program)) none = refl
+still_without (Some (make rows seed)) none = refl
+still_without (Some (run program settings)) none = absurd (let wrong : ◌≡◌ {A = Option Settings} (Some settings) None = none in cc)
+still_without (Some (job rows seed settings)) none = absurd (let wrong : ◌≡◌ {A = Option Settings} (Some settings) None = none in cc)
 
--- Where no run is asked for, the request is the same without workers.
-pub request_still : (words : List Bytes) → (AskRun words → ⊥) → still_request_of words ≡ request_of words
-request_still words other = still_without (asked_of words) other
+shelf_without : (asks : Option Asked) (shelf : ShelfState) → option_and_then settings_of asks ≡ None → shelf ≡ shelf_in asks shelf
+shelf_without None shelf none = refl
+shelf_without (Some (elide program)) shelf none = refl
+shelf_without (Some (check program)) shelf none = refl
+shelf_without (Some (make rows seed)) shelf none = refl
+shelf_without (Some (run program settings)) shelf none = refl
+shelf_without (Some (job rows seed settings)) shelf none = absurd (let wrong : ◌≡◌ {A = Option Settings} (Some settings) None = none in cc)
 
-pub request_of_run : (words : List Bytes) (name : Bytes) (settings : Settings) → asked_of words ≡ Some (run name settings) → request_of words ≡ Some (request_for Elide name)
-request_of_run words name settings is = ap (option_map request_in) is
+module _ (words : List Bytes) (none : settings_asked words ≡ None) where
+  -- The request is the same, and its files are the shelf's.
+  pub request_still : still_request_of words ≡ request_of words
+  request_still = still_without (asked_of words) none
 
-run_requests : (asked : Option Asked) → option_map name_of asked ≡ Some name.Run → option_map request_in asked ≢ None
-run_requests None is none = let wrong : ◌≡◌ {A = Option CommandName} None (Some name.Run) = is in cc
-run_requests (Some asked) is none = let wrong : ◌≡◌ {A = Option Request} (Some (request_in asked)) None = none in cc
+  pub shelf_still : (shelf : ShelfState) → shelf ≡ shelf_for words shelf
+  shelf_still shelf = shelf_without (asked_of words) shelf none
 
-pub run_has_request : (words : List Bytes) → AskRun words → request_of words ≢ None
-run_has_request words asks = run_requests (asked_of words) asks
+  pub still_answers : (P : Option Request → ShelfState → ShelfState → Type 0) (shelf shelf' : ShelfState) → P (still_request_of words) shelf shelf'
+      → P (request_of words) (shelf_for words shelf) (shelf_for words shelf')
+  still_answers P shelf shelf' h =
+      subst (λ (z : ShelfState). P (request_of words) (shelf_for words shelf) z) (shelf_still shelf')
+      (subst (λ (z : ShelfState). P (request_of words) z shelf') (shelf_still shelf) (subst (λ (r : Option Request). P r shelf shelf') request_still h))
 
-pub asks_run : (words : List Bytes) (name : Bytes) (settings : Settings) → asked_of words ≡ Some (run name settings) → AskRun words
-asks_run words name settings is = ap (option_map name_of) is
+-- ---- a command that was read
 
--- Words ask for one run.
-pub one_run : (words : List Bytes) (name name' : Bytes) (settings settings' : Settings) → asked_of words ≡ Some (run name settings) → asked_of words ≡ Some (run name' settings')
-    → (name ≡ name') × (settings ≡ settings')
-one_run words name name' settings settings' is is' =
-    let same : ◌≡◌ {A = Option Asked} (Some (run name settings)) (Some (run name' settings')) = sym is ∙ is' in (cc, cc)
+pub asked_is : (words : List Bytes) (read is : Command) → Some (asked read) ≡ asked_of words → read ≡ is → Some (asked is) ≡ asked_of words
+asked_is words read is same e = sym (ap (λ (command : Command). Some (asked command)) e) ∙ same
+
+pub one_settings : (words : List Bytes) (read : Asked) (a b : Settings) → Some read ≡ asked_of words → settings_of read ≡ Some a → settings_asked words ≡ Some b → a ≡ b
+one_settings words read a b is has asks =
+    let same : ◌≡◌ {A = Option Settings} (Some a) (Some b) = sym has ∙ ap (option_and_then settings_of) is ∙ asks in cc

@@ -1,5 +1,5 @@
 -- What ends a command before its program runs, and what is known where nothing does.
-use Rattle.std.proofs.Common.{◌≡◌, ◌≢◌, ◌≤◌, ◌∙◌, ℕ, List, [], length, Some, Result, Ok, Err, codes, ◌⊎◌, inl, inr, refl, sym, ap, arith}
+use Rattle.std.proofs.Common.{◌≡◌, ◌≢◌, ◌≤◌, ◌∙◌, ℕ, List, [], length, Option, Some, Result, Ok, Err, codes, ◌⊎◌, inl, inr, refl, sym, ap, arith}
 use Rattle.std.proofs.lemmas.List.Elements.{All-take}
 use Rattle.spd_io.specs.Shelf.{ShelfState, MayBe, MayExceed, FailedAt, ChangesNoOther}
 use Rattle.spd_io.specs.Sink.{SinkState}
@@ -16,7 +16,7 @@ use Rattle.spd_top.specs.declared.words.SerialCommand.{SerialCommand}
 use Rattle.spd_top.specs.declared.words.SerialCommand.TheVariants.{Elide, Check}
 use Rattle.spd_top.specs.declared.building.BuildError.{BuildError}
 use Rattle.spd_top.specs.declared.building.BuildError.TheVariants as errors
-use Rattle.spd_top.specs.Requests.{request_for}
+use Rattle.spd_top.specs.Requests.{over}
 use Rattle.spd_top.specs.Built.{TextOutcome, ComesTo, IsRefused, lex_fault, parse_fault, check_fault, passes}
 use Rattle.spd_top.specs.DataFiles.{columns_loaded, file_refused, StopsAt}
 use Rattle.spd_top.specs.Told.{Bytes, of_file, of_line, lex_word, parse_word, check_word, data_word}
@@ -57,14 +57,14 @@ abbrev IsFault : TextOutcome → Type 0
 IsFault (passes tree) = ⊥
 IsFault _ = Unit {0}
 
-module _ (command : SerialCommand) (name : Bytes) (old now : ShelfState) (first : ChangesNoOther old now name) (err err' : SinkState) (result : ℕ) where
+module _ (counts : Option ℕ) (command : SerialCommand) (name : Bytes) (old now : ShelfState) (first : ChangesNoOther old now name) (err err' : SinkState) (result : ℕ) where
   abbrev Answers : SinkState → Type 0
-  Answers out = Answer (Some (request_for command name)) old now out out err err' result
+  Answers out = Answer (Some (over command name counts)) old now out out err err' result
 
   abbrev Ends : Type 0
-  Ends = AnswersEarly command name old now err err' result
+  Ends = AnswersEarly counts command name old now err err' result
 
-  pub no_others : ChangesNoUntouched (Some (request_for command name)) old now
+  pub no_others : ChangesNoUntouched (Some (over command name counts)) old now
   no_others other untouched = first other (λ e. untouched.operand (ap Some (sym e)))
 
   ends : (status : ℕ) → status ≢ 0 → status ≢ 3 → status ≢ 4 → ((out : SinkState) → Answers out) → IsTold status result → Ends
@@ -78,12 +78,12 @@ module _ (command : SerialCommand) (name : Bytes) (old now : ShelfState) (first 
   pub ends_too_long : MayExceed (old.file name) max_text → Says 1 err err' (of_file name (codes "TooLong")) result ⊎ WantsMemory err err' result → Ends
   ends_too_long exceeds says =
       ends 1 (λ e. omega arith) (λ e. omega arith) (λ e. omega arith)
-      (λ out. said_or_wanted (Some (request_for command name)) old now out err err' 1 (of_file name (codes "TooLong")) result (too_long name refl exceeds) (λ e. omega arith) says)
+      (λ out. said_or_wanted (Some (over command name counts)) old now out err err' 1 (of_file name (codes "TooLong")) result (too_long name refl exceeds) (λ e. omega arith) says)
       (said_told 1 err err' (of_file name (codes "TooLong")) result says)
 
   pub ends_unread : FailedAt old now name → ((result ≡ 4) × GetsOrFails err err' (of_file name (codes "read failed"))) ⊎ WantsMemory err err' result → Ends
   ends_unread failed says = record {
-    answer = λ out. not_read_told (Some (request_for command name)) old now out err err' name result (program name refl failed) says;
+    answer = λ out. not_read_told (Some (over command name counts)) old now out err err' name result (program name refl failed) says;
     others = no_others;
     not_ended = no_end 4 result (λ e. omega arith) (λ e. omega arith) (by_cause says);
     read_cause = λ four. (name, program name refl failed);
@@ -94,14 +94,14 @@ module _ (command : SerialCommand) (name : Bytes) (old now : ShelfState) (first 
       by_cause (inr wants) = inr (inr wants.0)
 
   pub ends_wanted : WantsMemory err err' result → Ends
-  ends_wanted wants = ends 7 (λ e. omega arith) (λ e. omega arith) (λ e. omega arith) (λ out. wanted (Some (request_for command name)) old now out err err' result wants) (inl wants.0)
+  ends_wanted wants = ends 7 (λ e. omega arith) (λ e. omega arith) (λ e. omega arith) (λ out. wanted (Some (over command name counts)) old now out err err' result wants) (inl wants.0)
 
   -- a text that gave no program
   pub ends_refused : (text : Bytes) (error : BuildError) → MayBe (old.file name) text → length text ≤ max_text → IsRefused text error → RefusesText name error err err' result → Ends
   ends_refused text error may within is says = by_error error is says
     where
-      reads : (outcome : TextOutcome) → ComesTo text outcome → ReadsText (Some (request_for command name)) old.file command name outcome
-      reads outcome comes = record { asks = refl; text = text; may = may; within = within; comes = comes }
+      reads : (outcome : TextOutcome) → ComesTo text outcome → ReadsText (Some (over command name counts)) old.file command name outcome
+      reads outcome comes = record { command_is = refl; program_is = refl; text = text; may = may; within = within; comes = comes }
 
       -- no data file is read
       no_data : (command : SerialCommand) (outcome : TextOutcome) → IsFault outcome → ReadsData old.file command outcome (columns_loaded [])
@@ -115,17 +115,17 @@ module _ (command : SerialCommand) (name : Bytes) (old now : ShelfState) (first 
       told line answer says = ends 1 (λ e. omega arith) (λ e. omega arith) (λ e. omega arith) (λ out. answer out says) (said_told 1 err err' line result says)
 
       by_error : (error : BuildError) → IsRefused text error → RefusesText name error err err' result → Ends
-      by_error (errors.Lex fault) is says = told (of_line name fault.line (lex_word fault.kind)) (λ out. said_or_wanted (Some (request_for command name)) old now out err err' 1 _ result
+      by_error (errors.Lex fault) is says = told (of_line name fault.line (lex_word fault.kind)) (λ out. said_or_wanted (Some (over command name counts)) old now out err err' 1 _ result
           (of_text command name (lex_fault fault) (columns_loaded []) 1 [] _ (reads (lex_fault fault) is) (no_data command (lex_fault fault) tt) refl) (λ e. omega arith)) says
-      by_error (errors.Parse fault) is says = told (of_line name fault.line (parse_word fault.kind)) (λ out. said_or_wanted (Some (request_for command name)) old now out err err' 1 _ result
+      by_error (errors.Parse fault) is says = told (of_line name fault.line (parse_word fault.kind)) (λ out. said_or_wanted (Some (over command name counts)) old now out err err' 1 _ result
           (of_text command name (parse_fault fault) (columns_loaded []) 1 [] _ (reads (parse_fault fault) is) (no_data command (parse_fault fault) tt) refl) (λ e. omega arith)) says
-      by_error (errors.Check fault) is says = told (of_line name fault.line (check_word fault.kind)) (λ out. said_or_wanted (Some (request_for command name)) old now out err err' 1 _ result
+      by_error (errors.Check fault) is says = told (of_line name fault.line (check_word fault.kind)) (λ out. said_or_wanted (Some (over command name counts)) old now out err err' 1 _ result
           (of_text command name (check_fault fault) (columns_loaded []) 1 [] _ (reads (check_fault fault) is) (no_data command (check_fault fault) tt) refl) (λ e. omega arith)) says
       by_error errors.NoMemory is says = ends_wanted says
 
 -- what a command reads of a program that a file has
-pub reads_as : (command : SerialCommand) (name : Bytes) (tree : Program) (old now : ShelfState) → HasProgram name tree old now → ReadsText (Some (request_for command name)) old.file command name (passes tree)
-reads_as command name tree old now has = record { asks = refl; text = has.text; may = has.may; within = has.within; comes = has.comes }
+pub reads_as : (counts : Option ℕ) (command : SerialCommand) (name : Bytes) (tree : Program) (old now : ShelfState) → HasProgram name tree old now → ReadsText (Some (over command name counts)) old.file command name (passes tree)
+reads_as counts command name tree old now has = record { command_is = refl; program_is = refl; text = has.text; may = has.may; within = has.within; comes = has.comes }
 
 -- ---- its data files, by a shelf that has been read before
 
@@ -137,16 +137,16 @@ others_kept items (Err (load.Failed number)) now new kept other none = kept othe
 others_kept items (Err (load.Refused number fault)) now new kept other none = kept other (All-take (λ what. file_in what ≢ Some other) _ items none)
 others_kept items (Err load.NoMemory) now new kept other none = kept other none
 
-module _ (name : Bytes) (tree : Program) (old now new : ShelfState) (has : HasProgram name tree old now) (r : Result (List Column) LoadFault)
+module _ (counts : Option ℕ) (name : Bytes) (tree : Program) (old now new : ShelfState) (has : HasProgram name tree old now) (r : Result (List Column) LoadFault)
     (is : IsLoad now new (declarations tree.items) r) (kept : (other : Bytes) → IsNoFileOf other (reached (declarations tree.items) r) → new.faults other ≡ now.faults other) where
-  reads : ReadsText (Some (request_for Elide name)) old.file Elide name (passes tree)
-  reads = reads_as Elide name tree old now has
+  reads : ReadsText (Some (over Elide name counts)) old.file Elide name (passes tree)
+  reads = reads_as counts Elide name tree old now has
 
-  others : ChangesNoUntouched (Some (request_for Elide name)) old new
+  others : ChangesNoUntouched (Some (over Elide name counts)) old new
   others other untouched =
       others_kept (declarations tree.items) r now new kept other (untouched.columns name tree reads) ∙ has.others other (λ e. untouched.operand (ap Some (sym e)))
 
-  pub has_columns : (columns : List Column) → r ≡ Ok columns → HasColumns name tree columns old new
+  pub has_columns : (columns : List Column) → r ≡ Ok columns → HasColumns counts name tree columns old new
   has_columns columns same = record {
     reads = reads;
     loaded = loaded_before old now has.files (declarations tree.items) columns (rw same at is);
@@ -155,21 +155,21 @@ module _ (name : Bytes) (tree : Program) (old now new : ShelfState) (has : HasPr
 
   module _ (err err' : SinkState) (result : ℕ) where
     abbrev EndsThere : Type 0
-    EndsThere = AnswersEarly Elide name old new err err' result
+    EndsThere = AnswersEarly counts Elide name old new err err' result
 
-    without : (status : ℕ) → status ≢ 0 → status ≢ 3 → ((out : SinkState) → Answer (Some (request_for Elide name)) old new out out err err' result)
-        → (result ≡ 4 → (file : Bytes) × IsUnread (Some (request_for Elide name)) old new file) → IsTold status result → EndsThere
+    without : (status : ℕ) → status ≢ 0 → status ≢ 3 → ((out : SinkState) → Answer (Some (over Elide name counts)) old new out out err err' result)
+        → (result ≡ 4 → (file : Bytes) × IsUnread (Some (over Elide name counts)) old new file) → IsTold status result → EndsThere
     without status zero three answer cause told = record { answer = answer; others = others; not_ended = no_end status result zero three told; read_cause = cause }
 
     without_room : WantsMemory err err' result → EndsThere
-    without_room wants = without 7 (λ e. omega arith) (λ e. omega arith) (λ out. wanted (Some (request_for Elide name)) old new out err err' result wants)
+    without_room wants = without 7 (λ e. omega arith) (λ e. omega arith) (λ out. wanted (Some (over Elide name counts)) old new out err err' result wants)
         (λ four. absurd (not_read_failure 7 result (λ e. omega arith) (inl wants.0) four)) (inl wants.0)
 
     no_columns : (fault : LoadFault) → IsLoad now new (declarations tree.items) (Err fault) → RefusesData tree fault err err' result → EndsThere
     no_columns (load.Failed number) is (inl (file, file_is, four, line)) =
         let named : file_in is.0 ≡ Some file = sym (next_is_named now.file tree.items number is.0 is.1) ∙ file_is in
         let stops : StopsAt now.file (declarations tree.items) is.0 file = record { number = number; next = is.1; named = named } in
-        let missed : IsUnread (Some (request_for Elide name)) old new file =
+        let missed : IsUnread (Some (over Elide name counts)) old new file =
         column name file tree is.0 reads (stops_before old now has.files (declarations tree.items) is.0 file stops) (failed_since old now new file has.counts (rw named at is.2)) in
         without 4 (λ e. omega arith) (λ e. omega arith) (λ out. rw four (unread file missed (takes_nothing out) line)) (λ e. (file, missed)) (inl four)
     no_columns (load.Refused number fault) is (inl (file, file_is, says)) =
@@ -177,7 +177,7 @@ module _ (name : Bytes) (tree : Program) (old now new : ShelfState) (has : HasPr
         let stops : StopsAt now.file (declarations tree.items) is.0 file = record { number = number; next = is.1; named = named } in
         let line = of_line file fault.row (data_word fault.kind) in
         let told : IsTold 6 result = said_told 6 err err' line result (inl says) in
-        without 6 (λ e. omega arith) (λ e. omega arith) (λ out. said (Some (request_for Elide name)) old new out err err' 6 line result
+        without 6 (λ e. omega arith) (λ e. omega arith) (λ out. said (Some (over Elide name counts)) old new out err err' 6 line result
         (of_text Elide name (passes tree) (file_refused file fault) 6 [] line reads
         (is.0, stops_before old now has.files (declarations tree.items) is.0 file stops, refused_before old now has.files is.0 fault is.2) refl) (λ e. omega arith) says)
         (λ four. absurd (not_read_failure 6 result (λ e. omega arith) told four)) told

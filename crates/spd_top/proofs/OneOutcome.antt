@@ -18,11 +18,12 @@ use Rattle.spd_check.specs.Checks.{faults_of}
 use Rattle.spd_cols.specs.Loading.{declarations}
 use Rattle.spd_top.specs.declared.words.SerialCommand.{SerialCommand}
 use Rattle.spd_top.specs.declared.words.SerialCommand.TheVariants.{Elide, Check}
-use Rattle.spd_top.specs.Requests.{Request, command_asked, program_asked}
+use Rattle.spd_cols.specs.Made.{made_csv}
+use Rattle.spd_top.specs.Requests.{Request, made_file, command_asked, program_asked, counts_asked}
 use Rattle.spd_top.specs.Built.{IsProgram, IsFaulty, TextOutcome, lex_fault, parse_fault, check_fault, passes, ComesTo}
 use Rattle.spd_top.specs.DataFiles.{DataOutcome}
 use Rattle.spd_top.specs.Told.{Bytes, of_file, Told, told_of}
-use Rattle.spd_top.specs.Serving.{ReadsText, ReadsData, Outcome, refused, missing, too_long, of_text, SameAnswer, AreAllTold, HasOneOutcome}
+use Rattle.spd_top.specs.Serving.{ReadsText, ReadsData, Outcome, refused, made, missing, too_long, of_text, SameAnswer, AreAllTold, HasOneOutcome}
 use Rattle.spd_top.proofs.Loads.{one_text, data_comes_to_one}
 use Rattle.spd_top.proofs.OneFault.{one_first_fault, spelled_has_no_fault}
 
@@ -115,13 +116,26 @@ module _ (request : Option Request) (file : Bytes → FileTold) (told : AreAllTo
   not_refused : (n : Bytes) → request ≡ None → program_asked request ≡ Some n → ⊥
   not_refused n e d = let wrong : ◌≡◌ {A = Option Bytes} None (Some n) = sym (ap program_asked e) ∙ d in cc
 
+  -- A made file is asked for by no name.
+  not_made : (n : Bytes) (rows seed : ℕ) → request ≡ Some (made_file rows seed) → program_asked request ≡ Some n → ⊥
+  not_made n rows seed e d = let wrong : ◌≡◌ {A = Option Bytes} None (Some n) = sym (ap program_asked e) ∙ d in cc
+
+  made_not_refused : (rows seed : ℕ) → request ≡ None → request ≡ Some (made_file rows seed) → ⊥
+  made_not_refused rows seed e d = let wrong : ◌≡◌ {A = Option Request} None (Some (made_file rows seed)) = sym e ∙ d in cc
+
+  same_made : (rows rows' seed seed' : ℕ) → request ≡ Some (made_file rows seed) → request ≡ Some (made_file rows' seed') → made_csv rows seed ≡ made_csv rows' seed'
+  same_made rows rows' seed seed' e d =
+      let same : ◌≡◌ {A = Option Request} (Some (made_file rows seed)) (Some (made_file rows' seed')) = sym e ∙ d in
+      let (x, y) : (rows ≡ rows') × (seed ≡ seed') = (cc, cc) in
+      rw (x, y) refl
+
   missing_no_text : (n n' : Bytes) (k : SerialCommand) (o : TextOutcome) → program_asked request ≡ Some n → file n ≡ Missing → ReadsText request file k n' o → ⊥
   missing_no_text n n' k o e m reads =
-      not_missing (file n') reads.text (ap file (sym (same_name n n' e (ap program_asked reads.asks))) ∙ m) reads.may
+      not_missing (file n') reads.text (ap file (sym (same_name n n' e reads.program_is)) ∙ m) reads.may
 
   long_no_text : (n n' : Bytes) (k : SerialCommand) (o : TextOutcome) → program_asked request ≡ Some n → MayExceed (file n) max_text → ReadsText request file k n' o → ⊥
   long_no_text n n' k o e m reads =
-      not_both (file n') reads.text (told.operand n' (ap program_asked reads.asks)) (subst (λ (y : Bytes). MayExceed (file y) max_text) (same_name n n' e (ap program_asked reads.asks)) m) reads.may reads.within
+      not_both (file n') reads.text (told.operand n' reads.program_is) (subst (λ (y : Bytes). MayExceed (file y) max_text) (same_name n n' e reads.program_is) m) reads.may reads.within
 
   missing_not_long : (n n' : Bytes) → program_asked request ≡ Some n → program_asked request ≡ Some n' → file n ≡ Missing → MayExceed (file n') max_text → ⊥
   missing_not_long n n' e d m x = not_exceeding (file n') (ap file (sym (same_name n n' e d)) ∙ m) x
@@ -131,28 +145,37 @@ module _ (request : Option Request) (file : Bytes → FileTold) (told : AreAllTo
 
   pub one_outcome : (s s' : ℕ) (z z' l l' : Bytes) → Outcome request file s z l → Outcome request file s' z' l' → SameAnswer s s' z z' l l'
   one_outcome s s' z z' l l' (refused e) (refused d) = (refl, refl, refl)
+  one_outcome s s' z z' l l' (refused e) (made a b d) = absurd (made_not_refused a b e d)
   one_outcome s s' z z' l l' (refused e) (missing n d m) = absurd (not_refused n e d)
   one_outcome s s' z z' l l' (refused e) (too_long n d m) = absurd (not_refused n e d)
-  one_outcome s s' z z' l l' (refused e) (of_text k n o came s2 z2 l2 r d t) = absurd (not_refused n e (ap program_asked r.asks))
+  one_outcome s s' z z' l l' (refused e) (of_text k n o came s2 z2 l2 r d t) = absurd (not_refused n e r.program_is)
+  one_outcome s s' z z' l l' (made a b d) (refused e) = absurd (made_not_refused a b e d)
+  one_outcome s s' z z' l l' (made a b d) (made a' b' d') = (refl, same_made a a' b b' d d', refl)
+  one_outcome s s' z z' l l' (made a b e) (missing n d m) = absurd (not_made n a b e d)
+  one_outcome s s' z z' l l' (made a b e) (too_long n d m) = absurd (not_made n a b e d)
+  one_outcome s s' z z' l l' (made a b e) (of_text k n o came s2 z2 l2 r d t) = absurd (not_made n a b e r.program_is)
+  one_outcome s s' z z' l l' (missing n d m) (made a b e) = absurd (not_made n a b e d)
   one_outcome s s' z z' l l' (missing n d m) (refused e) = absurd (not_refused n e d)
   one_outcome s s' z z' l l' (missing n d m) (missing n' d' m') = (refl, refl, same_line n n' _ d d')
   one_outcome s s' z z' l l' (missing n d m) (too_long n' d' m') = absurd (missing_not_long n n' d d' m m')
   one_outcome s s' z z' l l' (missing n d m) (of_text k n' o came s2 z2 l2 r d' t) = absurd (missing_no_text n n' k o d m r)
+  one_outcome s s' z z' l l' (too_long n d m) (made a b e) = absurd (not_made n a b e d)
   one_outcome s s' z z' l l' (too_long n d m) (refused e) = absurd (not_refused n e d)
   one_outcome s s' z z' l l' (too_long n d m) (missing n' d' m') = absurd (missing_not_long n' n d' d m' m)
   one_outcome s s' z z' l l' (too_long n d m) (too_long n' d' m') = (refl, refl, same_line n n' _ d d')
   one_outcome s s' z z' l l' (too_long n d m) (of_text k n' o came s2 z2 l2 r d' t) = absurd (long_no_text n n' k o d m r)
-  one_outcome s s' z z' l l' (of_text k n o came s2 z2 l2 r d t) (refused e) = absurd (not_refused n e (ap program_asked r.asks))
+  one_outcome s s' z z' l l' (of_text k n o came s2 z2 l2 r d t) (made a b e) = absurd (not_made n a b e r.program_is)
+  one_outcome s s' z z' l l' (of_text k n o came s2 z2 l2 r d t) (refused e) = absurd (not_refused n e r.program_is)
   one_outcome s s' z z' l l' (of_text k n o came s2 z2 l2 r d t) (missing n' d' m') = absurd (missing_no_text n' n k o d' m' r)
   one_outcome s s' z z' l l' (of_text k n o came s2 z2 l2 r d t) (too_long n' d' m') = absurd (long_no_text n' n k o d' m' r)
   one_outcome s s' z z' l l' (of_text k n o came s2 z2 l2 r d t) (of_text k' n' o' came' s3 z3 l3 r' d' t') =
-      let names : n ≡ n' = same_name n n' (ap program_asked r.asks) (ap program_asked r'.asks) in
-      let commands : k ≡ k' = same_command k k' (ap command_asked r.asks) (ap command_asked r'.asks) in
-      let texts : r.text ≡ r'.text = one_text (file n) r.text r'.text (told.operand n (ap program_asked r.asks)) r.may (subst (λ (y : Bytes). MayBe (file y) r'.text) (sym names) r'.may) in
+      let names : n ≡ n' = same_name n n' r.program_is r'.program_is in
+      let commands : k ≡ k' = same_command k k' r.command_is r'.command_is in
+      let texts : r.text ≡ r'.text = one_text (file n) r.text r'.text (told.operand n r.program_is) r.may (subst (λ (y : Bytes). MayBe (file y) r'.text) (sym names) r'.may) in
       let one : o ≡ o' = comes_to_one r.text o o' r.comes (subst (λ (y : Bytes). ComesTo y o') (sym texts) r'.comes) in
       let read' : ReadsData file k o came' = subst (λ (w : TextOutcome). ReadsData file k w came') (sym one) (subst (λ (w : SerialCommand). ReadsData file w o' came') (sym commands) d') in
       let datas : came ≡ came' = same_data k n o came came' r d read' in
-      same_told (told_of k n o came) (told_of k' n' o' came') s2 s3 z2 z3 l2 l3 (rw (commands, names, one, datas) refl) t t'
+      same_told (told_of (counts_asked request) k n o came) (told_of (counts_asked request) k' n' o' came') s2 s3 z2 z3 l2 l3 (rw (commands, names, one, datas) refl) t t'
 
 pub has_one_outcome : (request : Option Request) (file : Bytes → FileTold) → HasOneOutcome request file
 has_one_outcome request file told = one_outcome request file told

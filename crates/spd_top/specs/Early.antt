@@ -1,5 +1,5 @@
 -- What is known before a program runs, or of the answer that came in its place.
-use Rattle.std.specs.Prelude.{◌≡◌, ℕ, ◌≤◌, List, length, Some}
+use Rattle.std.specs.Prelude.{◌≡◌, ℕ, ◌≤◌, List, length, Option, Some}
 use Rattle.spd_io.specs.Shelf.{MayBe, ShelfState, KeepsFiles, ShelfKeepsFaults, ChangesNoOther}
 use Rattle.spd_io.specs.Sink.{SinkState}
 use Rattle.spd_data.specs.declared.column.Column.{Column}
@@ -8,7 +8,7 @@ use Rattle.spd_syntax.specs.declared.tree.Program.{Program}
 use Rattle.spd_cols.specs.Loading.{declarations}
 use Rattle.spd_top.specs.declared.words.SerialCommand.{SerialCommand}
 use Rattle.spd_top.specs.declared.words.SerialCommand.TheVariants.{Elide}
-use Rattle.spd_top.specs.Requests.{request_for}
+use Rattle.spd_top.specs.Requests.{over}
 use Rattle.spd_top.specs.Built.{passes, ComesTo}
 use Rattle.spd_top.specs.DataFiles.{columns_loaded, DataComesTo}
 use Rattle.spd_top.specs.Told.{Bytes}
@@ -26,14 +26,14 @@ pub record HasProgram (name : Bytes) (tree : Program) (shelf shelf' : ShelfState
   pub others : ChangesNoOther shelf shelf' name
 
 -- So were its data files, and these are its columns.
-pub record HasColumns (name : Bytes) (tree : Program) (columns : List Column) (shelf shelf' : ShelfState) : Type 0 where
-  pub reads : ReadsText (Some (request_for Elide name)) shelf.file Elide name (passes tree)
+pub record HasColumns (counts : Option ℕ) (name : Bytes) (tree : Program) (columns : List Column) (shelf shelf' : ShelfState) : Type 0 where
+  pub reads : ReadsText (Some (over Elide name counts)) shelf.file Elide name (passes tree)
   pub loaded : DataComesTo shelf.file (declarations tree.items) (columns_loaded columns)
-  pub others : ChangesNoUntouched (Some (request_for Elide name)) shelf shelf'
+  pub others : ChangesNoUntouched (Some (over Elide name counts)) shelf shelf'
 
 -- A command over this file was answered, with nothing put to `out`.
-pub record AnswersEarly (command : SerialCommand) (name : Bytes) (shelf shelf' : ShelfState) (err err' : SinkState) (result : ℕ) : Type 0 where
-  pub answer : (out : SinkState) → Answer (Some (request_for command name)) shelf shelf' out out err err' result
-  pub others : ChangesNoUntouched (Some (request_for command name)) shelf shelf'
+pub record AnswersEarly (counts : Option ℕ) (command : SerialCommand) (name : Bytes) (shelf shelf' : ShelfState) (err err' : SinkState) (result : ℕ) : Type 0 where
+  pub answer : (out : SinkState) → Answer (Some (over command name counts)) shelf shelf' out out err err' result
+  pub others : ChangesNoUntouched (Some (over command name counts)) shelf shelf'
   pub not_ended : EndsRun result → ⊥
-  pub read_cause : result ≡ 4 → (file : Bytes) × IsUnread (Some (request_for command name)) shelf shelf' file
+  pub read_cause : result ≡ 4 → (file : Bytes) × IsUnread (Some (over command name counts)) shelf shelf' file

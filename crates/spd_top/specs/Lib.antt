@@ -1,9 +1,11 @@
 pub mod Built
 pub mod DataFiles
 pub mod Told
+pub mod BuiltIn
 pub mod Requests
 pub mod Serving
 pub mod Jobs
+pub mod Rising
 pub mod Early
 pub mod Coins
 pub mod Command

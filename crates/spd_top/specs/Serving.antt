@@ -8,13 +8,14 @@ use Rattle.spd_syntax.specs.declared.tree.ItemKind.TheVariants as i
 use Rattle.spd_cols.specs.declared.fault.LoadFault.{LoadFault}
 use Rattle.spd_cols.specs.declared.fault.LoadFault.TheVariants as load
 use Rattle.spd_cols.specs.Loading.{declarations, file_of_column, IsNoFileOf}
+use Rattle.spd_cols.specs.Made.{made_csv}
 use Rattle.spd_spine.specs.declared.turn.End.{End}
 use Rattle.spd_spine.specs.declared.turn.End.TheVariants as end
 use Rattle.spd_spine.specs.declared.turn.RunError.{RunError}
 use Rattle.spd_spine.specs.declared.turn.RunError.TheVariants as failed
 use Rattle.spd_top.specs.declared.words.SerialCommand.{SerialCommand}
 use Rattle.spd_top.specs.declared.words.SerialCommand.TheVariants.{Elide}
-use Rattle.spd_top.specs.Requests.{Request, request_for, program_asked}
+use Rattle.spd_top.specs.Requests.{Request, made_file, command_asked, program_asked, counts_asked}
 use Rattle.spd_top.specs.Built.{TextOutcome, passes, ComesTo}
 use Rattle.spd_top.specs.DataFiles.{DataOutcome, columns_loaded, DataComesTo, StopsAt, AreTold}
 use Rattle.spd_top.specs.Told.{Bytes, end_of_line, of_file, of_line, of_fault, lex_word, parse_word, check_word, data_word, Told, told_of}
@@ -39,9 +40,10 @@ abbrev pub ReadsData : (Bytes → FileTold) → SerialCommand → TextOutcome �
 ReadsData file Elide (passes tree) came = DataComesTo file (declarations tree.items) came
 ReadsData file _ _ came = came ≡ columns_loaded []
 
--- The request is this command and file, whose text comes to this.
+-- The request is this command over this file, whose text comes to this.
 pub record ReadsText (request : Option Request) (file : Bytes → FileTold) (command : SerialCommand) (name : Bytes) (outcome : TextOutcome) : Type 0 where
-  pub asks : request ≡ Some (request_for command name)
+  pub command_is : command_asked request ≡ Some command
+  pub program_is : program_asked request ≡ Some name
   pub text : Bytes
   pub may : MayBe (file name) text
   pub within : length text ≤ max_text
@@ -49,10 +51,11 @@ pub record ReadsText (request : Option Request) (file : Bytes → FileTold) (com
 
 pub data Outcome (request : Option Request) (file : Bytes → FileTold) : ℕ → Bytes → Bytes → Type 0 where
   refused : request ≡ None → Outcome request file 2 [] words_refused
+  made : (rows seed : ℕ) → request ≡ Some (made_file rows seed) → Outcome request file 0 (made_csv rows seed) []
   missing : (name : Bytes) → program_asked request ≡ Some name → file name ≡ Missing → Outcome request file 4 [] (of_file name (codes "read failed"))
   too_long : (name : Bytes) → program_asked request ≡ Some name → MayExceed (file name) max_text → Outcome request file 1 [] (of_file name (codes "TooLong"))
   of_text : (command : SerialCommand) (name : Bytes) (outcome : TextOutcome) (came : DataOutcome) (status : ℕ) (bytes line : Bytes) → ReadsText request file command name outcome
-      → ReadsData file command outcome came → told_of command name outcome came ≡ record { status = status; bytes = bytes; line = line } → Outcome request file status bytes line
+      → ReadsData file command outcome came → told_of (counts_asked request) command name outcome came ≡ record { status = status; bytes = bytes; line = line } → Outcome request file status bytes line
 
 -- two statuses, with the bytes for `out` and the lines for `err`
 abbrev pub SameAnswer : ℕ → ℕ → Bytes → Bytes → Bytes → Bytes → Type 0
@@ -135,12 +138,12 @@ RefusesData tree (load.Refused number fault) old new result =
     ⊎ WantsMemory old new result
 RefusesData tree load.NoMemory old new result = WantsMemory old new result
 
--- How main ended was told.
-abbrev pub TellsEnd : Bytes → Result End RunError → SinkState → SinkState → ℕ → Type 0
-TellsEnd name (Ok end.Done) old new result = (result ≡ 0) × (new ≡ old)
-TellsEnd name (Ok (end.Fault code)) old new result = Says 3 old new (of_fault name code) result ⊎ WantsMemory old new result
-TellsEnd name (Err failed.WriteFailed) old new result = (result ≡ 5) × GetsOrFails old new write_failed
-TellsEnd name (Err failed.NoMemory) old new result = WantsMemory old new result
+-- How main ended was told, by this line where it fell through.
+abbrev pub TellsEnd : Bytes → Bytes → Result End RunError → SinkState → SinkState → ℕ → Type 0
+TellsEnd line name (Ok end.Done) old new result = Says 0 old new line result ⊎ WantsMemory old new result
+TellsEnd line name (Ok (end.Fault code)) old new result = Says 3 old new (of_fault name code) result ⊎ WantsMemory old new result
+TellsEnd line name (Err failed.WriteFailed) old new result = (result ≡ 5) × GetsOrFails old new write_failed
+TellsEnd line name (Err failed.NoMemory) old new result = WantsMemory old new result
 
 -- What was answered, by what shelf, `out` and `err` were before and after.
 pub data Answer (request : Option Request) (shelf shelf' : ShelfState) (out out' err err' : SinkState) : ℕ → Type 0 where

@@ -1,5 +1,5 @@
 -- What a command tells of a text: a status, the bytes for `out` and the line for `err`.
-use Rattle.std.specs.Prelude.{ℕ, ◌/◌, ◌%◌, ◌==◌, if◌then◌else◌, List, [], ◌∷◌, ◌++◌, codes}
+use Rattle.std.specs.Prelude.{ℕ, ◌+◌, ◌/◌, ◌%◌, ◌^◌, ◌==◌, if◌then◌else◌, min, sum_by, List, [], ◌∷◌, ◌++◌, length, Option, Some, None, codes}
 use Rattle.std.specs.Fmt.{decimal}
 use Rattle.spd_syntax.specs.declared.tree.Program.{Program}
 use Rattle.spd_syntax.specs.declared.lexing.LexKind.{LexKind}
@@ -12,6 +12,7 @@ use Rattle.spd_check.specs.declared.faults.CheckKind.TheVariants as check
 use Rattle.spd_cols.specs.declared.fault.DataKind.{DataKind}
 use Rattle.spd_cols.specs.declared.fault.DataKind.TheVariants as of_data
 use Rattle.spd_level.specs.Columns.{columns_in}
+use Rattle.spd_meaning.specs.Acts.{jobs_of}
 use Rattle.spd_meaning.specs.Eval as eval
 use Rattle.spd_meaning.specs.Eval.{Eval}
 use Rattle.spd_meaning.specs.Programs.{main_meaning}
@@ -80,6 +81,21 @@ fault_word kind = if kind == 1 then codes "division by zero" else if kind == 2 t
 abbrev pub of_fault : Bytes → ℕ → Bytes
 of_fault name code = of_line name (code / 8) (fault_word (code % 8))
 
+-- what is told of regions and of the moves that they drew
+abbrev pub of_counts : ℕ → ℕ → Bytes
+of_counts regions moves = codes "spd: regions " ++ decimal regions ++ codes ", moves " ++ decimal moves ++ end_of_line
+
+-- ---- jobs, each as the number of its moves without its own
+
+-- how many moves they draw, each from a table of so many: of each the lesser of its moves with its own and those of the table
+abbrev pub moves_within : ℕ → List ℕ → ℕ
+moves_within most jobs = sum_by (λ moves. min (moves + 1) most) jobs
+
+-- what is told of the jobs of a program that came to its end, where it is to be, with the moves of a table: a region for each
+abbrev pub counts_line : Option ℕ → List ℕ → Bytes
+counts_line None jobs = []
+counts_line (Some most) jobs = of_counts (length jobs % 2 ^ 64) (moves_within most jobs % 2 ^ 64)
+
 -- ---- what is told
 
 pub record Told : Type 0 where
@@ -92,31 +108,36 @@ pub record Told : Type 0 where
 abbrev pub refusal : Bytes → Told
 refusal line = record { status = 1; bytes = []; line = line }
 
-abbrev pub end_told : {A : Type 0} → Bytes → eval.End A → Bytes → Told
-end_told name (eval.Fault code) bytes = record { status = 3; bytes = bytes; line = of_fault name code }
-end_told name _ bytes = record { status = 0; bytes = bytes; line = [] }
+-- the end of main: this line where it fell through, else its fault
+abbrev pub end_told : {A : Type 0} → Bytes → Bytes → eval.End A → Bytes → Told
+end_told line name (eval.Fault code) bytes = record { status = 3; bytes = bytes; line = of_fault name code }
+end_told line name _ bytes = record { status = 0; bytes = bytes; line = line }
 
--- the lines that main prints, and where it faults that fault
-abbrev pub run_told : {A : Type 0} → Bytes → Eval A → Told
-run_told name a = end_told name a.end (printed a.given)
+-- the lines that main prints, and where it faults that fault; where it falls through, its jobs, if they are to be told
+abbrev pub run_told : {A : Type 0} → Option ℕ → Bytes → Eval A → Told
+run_told counts name a = end_told (counts_line counts (jobs_of a.given)) name a.end (printed a.given)
 
 -- what is told of data files that came to this: a program runs over its columns, and what it means is said of its own names
-abbrev pub elided : Bytes → Program → DataOutcome → Told
-elided name tree (columns_loaded columns) = run_told name (main_meaning tree.items (columns_in tree.items columns))
-elided name tree (file_unread file) = record { status = 4; bytes = []; line = of_file file (codes "read failed") }
-elided name tree (file_refused file fault) = record { status = 6; bytes = []; line = of_line file fault.row (data_word fault.kind) }
+abbrev pub elided : Option ℕ → Bytes → Program → DataOutcome → Told
+elided counts name tree (columns_loaded columns) = run_told counts name (main_meaning tree.items (columns_in tree.items columns))
+elided counts name tree (file_unread file) = record { status = 4; bytes = []; line = of_file file (codes "read failed") }
+elided counts name tree (file_refused file fault) = record { status = 6; bytes = []; line = of_line file fault.row (data_word fault.kind) }
+
+-- bytes, and no line
+abbrev pub bytes_alone : Bytes → Told
+bytes_alone bytes = record { status = 0; bytes = bytes; line = [] }
 
 abbrev pub checked : Program → Told
-checked tree = record { status = 0; bytes = canonical_text tree; line = [] }
+checked tree = bytes_alone (canonical_text tree)
 
 -- what a command tells of a program that passes the checks, and of what its data files came to
-abbrev pub program_told : SerialCommand → Bytes → Program → DataOutcome → Told
-program_told Elide name tree came = elided name tree came
-program_told Check name tree came = checked tree
+abbrev pub program_told : Option ℕ → SerialCommand → Bytes → Program → DataOutcome → Told
+program_told counts Elide name tree came = elided counts name tree came
+program_told counts Check name tree came = checked tree
 
 -- what it tells of a file of this name, whose text comes to this, and of its data files
-abbrev pub told_of : SerialCommand → Bytes → TextOutcome → DataOutcome → Told
-told_of command name (lex_fault fault) came = refusal (of_line name fault.line (lex_word fault.kind))
-told_of command name (parse_fault fault) came = refusal (of_line name fault.line (parse_word fault.kind))
-told_of command name (check_fault fault) came = refusal (of_line name fault.line (check_word fault.kind))
-told_of command name (passes tree) came = program_told command name tree came
+abbrev pub told_of : Option ℕ → SerialCommand → Bytes → TextOutcome → DataOutcome → Told
+told_of counts command name (lex_fault fault) came = refusal (of_line name fault.line (lex_word fault.kind))
+told_of counts command name (parse_fault fault) came = refusal (of_line name fault.line (parse_word fault.kind))
+told_of counts command name (check_fault fault) came = refusal (of_line name fault.line (check_word fault.kind))
+told_of counts command name (passes tree) came = program_told counts command name tree came

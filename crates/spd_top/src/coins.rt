@@ -1,12 +1,12 @@
 // The coins of a run, by the options of its words.
 
-ghost use Rattle.std.specs.Prelude.{◌≡◌, ℕ, List, Some, IfOk, length};
+ghost use Rattle.std.specs.Prelude.{◌≡◌, Some, IfOk, length};
 ghost use Rattle.spd_command.specs.declared.settings.Settings.{Settings};
-ghost use Rattle.spd_command.specs.Asked.{run, asked_of};
+ghost use Rattle.spd_top.specs.Requests.{settings_asked};
 ghost use Rattle.spd_top.specs.Coins.{AreNewCoins};
 
 use crate::words::Words;
-use spd_command::{STANDARD, Settings};
+use spd_command::{Command, CommandError, STANDARD, Settings};
 use spd_grow::PcgCoin;
 use std::alloc::{AllocError, Global};
 
@@ -27,17 +27,27 @@ fn new_coins(alloc: Global, settings: Settings) -> Result<Vec<PcgCoin>, AllocErr
     Ok(coins)
 }
 
-/// The coins of the run that words ask for; where they ask for none, those of a run without options.
+/// The settings that words ask for; where they ask for no workers, those of a run without options.
+fn settings_for(alloc: Global, words: &Words) -> Result<Settings, AllocError>
+    ensures { (settings : Settings) → settings_asked words.now ≡ Some settings →
+        IfOk result (λ found. found ≡ settings) }
+{
+    match words.command(alloc) {
+        Ok(Command::Run { settings, .. }) => Ok(settings),
+        Ok(Command::Job { settings, .. }) => Ok(settings),
+        Err(CommandError::NoMemory) => Err(AllocError),
+        Ok(_) => Ok(STANDARD),
+        Err(CommandError::Refused) => Ok(STANDARD),
+    }
+}
+
+/// The coins of the workers that words ask for; where they ask for none, those of a run without options.
 pub(crate) fn coins_for(alloc: Global, words: &Words) -> Result<Vec<PcgCoin>, AllocError>
     ensures count { IfOk result (λ coins. length coins.items ≡ 64) }
-    ensures each { (name : List ℕ) (settings : Settings) → asked_of words.now ≡ Some (run name settings) →
+    ensures each { (settings : Settings) → settings_asked words.now ≡ Some settings →
         IfOk result (λ coins. AreNewCoins settings coins.items) }
 {
-    let settings = if words.ask_run() {
-        words.run(alloc)?.settings
-    } else {
-        STANDARD
-    };
+    let settings = settings_for(alloc, words)?;
     let coins = new_coins(alloc, settings)?;
     Ok(coins)
 }

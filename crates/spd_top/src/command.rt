@@ -1,7 +1,9 @@
 // The whole command: what the program does, as a function of its arguments, its files and its sinks.
 ghost use Rattle.std.specs.Prelude.{◌≡◌, ◌≢◌, ◌<◌, ◌⊎◌, ◌↔◌, ℕ, List, IfOk, OnErr, IsTrue, Some, None};
 ghost use Rattle.spd_io.specs.Sink.{Failed, SameFaults};
-ghost use Rattle.spd_top.specs.Requests.{request_of};
+ghost use Rattle.spd_command.specs.Asked.{asked_of};
+ghost use Rattle.spd_top.specs.BuiltIn.{shelf_for};
+ghost use Rattle.spd_top.specs.Requests.{request_of, NamesFile, IsJob};
 ghost use Rattle.spd_top.specs.Serving.{words_refused, IsUnread, ChangesNoUntouched, Says, WantsMemory, Answer};
 ghost use Rattle.spd_top.specs.Command.{words_of, AreText, OfWords, WhereNotText};
 
@@ -63,14 +65,17 @@ fn serve_words<R: Threads + Wait + Sync, F: Shelf, O: Sink, E: Sink>(
     out: &mut O,
     err: &mut E,
 ) -> u8
-    ensures answer { Answer (request_of words.now) (F.state shelf.old) (F.state shelf.new)
+    ensures answer { Answer (request_of words.now)
+        (shelf_for words.now (F.state shelf.old)) (shelf_for words.now (F.state shelf.new))
         (O.state out.old) (O.state out.new) (E.state err.old) (E.state err.new) result }
     ensures refused { request_of words.now ≡ None → Says 2 (E.state err.old) (E.state err.new) words_refused result ⊎
         WantsMemory (E.state err.old) (E.state err.new) result }
-    ensures uncalled { request_of words.now ≡ None → shelf.new ≡ shelf.old }
-    ensures others { ChangesNoUntouched (request_of words.now) (F.state shelf.old) (F.state shelf.new) }
-    ensures read_cause { result ≡ 4 → (name : List ℕ) ×
-        IsUnread (request_of words.now) (F.state shelf.old) (F.state shelf.new) name }
+    ensures uncalled { (NamesFile (asked_of words.now) → ⊥) → shelf.new ≡ shelf.old }
+    ensures others { ChangesNoUntouched (request_of words.now)
+        (shelf_for words.now (F.state shelf.old)) (shelf_for words.now (F.state shelf.new)) }
+    ensures read_cause { result ≡ 4 → (name : List ℕ) × IsUnread (request_of words.now)
+        (shelf_for words.now (F.state shelf.old)) (shelf_for words.now (F.state shelf.new)) name }
+    ensures job_is_read { IsJob (asked_of words.now) → result ≢ 4 }
     ensures write_cause { result ≡ 5 →
         Failed (O.state out.old) (O.state out.new) ⊎ Failed (E.state err.old) (E.state err.new) }
     ensures out_kept { result ≢ 5 → SameFaults (O.state out.old) (O.state out.new) }
@@ -102,8 +107,8 @@ pub fn serve_arguments<R: Threads + Wait + Sync, F: Shelf, O: Sink, E: Sink>(
     err: &mut E,
 ) -> u8
     // The answer is that to the words.
-    ensures answer { OfWords arguments (λ words.
-        Answer (request_of words) (F.state shelf.old) (F.state shelf.new)
+    ensures answer { OfWords arguments (λ words. Answer (request_of words)
+        (shelf_for words (F.state shelf.old)) (shelf_for words (F.state shelf.new))
         (O.state out.old) (O.state out.new) (E.state err.old) (E.state err.new) result) }
     // Words that aren't UTF-8 are refused, whatever memory there is, and arguments that could not be had are told.
     ensures not_text { WhereNotText arguments (Says 2 (E.state err.old) (E.state err.new) words_refused result) }
@@ -112,16 +117,17 @@ pub fn serve_arguments<R: Threads + Wait + Sync, F: Shelf, O: Sink, E: Sink>(
     ensures refused { OfWords arguments (λ words. request_of words ≡ None →
         Says 2 (E.state err.old) (E.state err.new) words_refused result ⊎
         WantsMemory (E.state err.old) (E.state err.new) result) }
-    // Refused words don't call the shelf; arguments that give no words call neither it nor `out`.
-    ensures uncalled { OfWords arguments (λ words. request_of words ≡ None → shelf.new ≡ shelf.old) }
+    // Refused words, a made file and a job don't call the shelf; arguments that give no words call neither it nor `out`.
+    ensures uncalled { OfWords arguments (λ words. (NamesFile (asked_of words) → ⊥) → shelf.new ≡ shelf.old) }
     ensures uncalled_not_text { WhereNotText arguments ((shelf.new ≡ shelf.old) × (out.new ≡ out.old)) }
     ensures uncalled_not_had { OnErr arguments ((shelf.new ≡ shelf.old) × (out.new ≡ out.old)) }
     // No count changes but that of PROGRAM and those of its data files.
-    ensures others { OfWords arguments (λ words.
-        ChangesNoUntouched (request_of words) (F.state shelf.old) (F.state shelf.new)) }
-    // 4 comes only where a read of one of these failed, and 5 only where a sink failed.
-    ensures read_cause { OfWords arguments (λ words. result ≡ 4 → (name : List ℕ) ×
-        IsUnread (request_of words) (F.state shelf.old) (F.state shelf.new) name) }
+    ensures others { OfWords arguments (λ words. ChangesNoUntouched (request_of words)
+        (shelf_for words (F.state shelf.old)) (shelf_for words (F.state shelf.new))) }
+    // 4 comes only where a read of one of these failed, so not for a job, and 5 only where a sink failed.
+    ensures read_cause { OfWords arguments (λ words. result ≡ 4 → (name : List ℕ) × IsUnread (request_of words)
+        (shelf_for words (F.state shelf.old)) (shelf_for words (F.state shelf.new)) name) }
+    ensures job_is_read { OfWords arguments (λ words. IsJob (asked_of words) → result ≢ 4) }
     ensures write_cause { result ≡ 5 →
         Failed (O.state out.old) (O.state out.new) ⊎ Failed (E.state err.old) (E.state err.new) }
     // Where `out` failed the status is 5, and where `err` failed it is 4, 5 or 7.

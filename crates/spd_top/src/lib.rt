@@ -4,7 +4,9 @@
 mod building;
 mod coins;
 mod command;
+mod counts;
 mod data;
+mod job_shelf;
 mod loaded;
 mod on_workers;
 mod programs;

@@ -1,6 +1,6 @@
 // The program of a file, with its columns; or why a command ends before its program runs.
 
-ghost use Rattle.std.specs.Prelude.{◌≡◌, IfOk, IfErr};
+ghost use Rattle.std.specs.Prelude.{◌≡◌, ℕ, Option, IfOk, IfErr};
 ghost use Rattle.spd_top.specs.declared.words.SerialCommand.{SerialCommand};
 ghost use Rattle.spd_top.specs.declared.words.SerialCommand.TheVariants.{Elide};
 ghost use Rattle.spd_top.specs.Serving.{RefusesText};
@@ -52,7 +52,8 @@ pub(crate) fn code_of<F: Shelf, E: Sink>(
 ) -> Result<Code, u8>
     ensures code { IfOk result (λ code. HasProgram name.now code (F.state shelf.old) (F.state shelf.new)) }
     ensures untold { IfOk result (λ _. err.new ≡ err.old) }
-    ensures told { (command : SerialCommand) → IfErr result (λ status. AnswersEarly command name.now
+    ensures told { (counts : Option ℕ) (command : SerialCommand) → IfErr result (λ status.
+        AnswersEarly counts command name.now
         (F.state shelf.old) (F.state shelf.new) (E.state err.old) (E.state err.new) status) }
 {
     let text = match shelf.read(alloc, name, MAX_TEXT) {
@@ -75,10 +76,10 @@ pub(crate) fn load_program<F: Shelf, E: Sink>(
     shelf: &mut F,
     err: &mut E,
 ) -> Result<Loaded, u8>
-    ensures loaded { IfOk result (λ loaded.
-        HasColumns name.now loaded.code loaded.columns (F.state shelf.old) (F.state shelf.new)) }
+    ensures loaded { (counts : Option ℕ) → IfOk result (λ loaded.
+        HasColumns counts name.now loaded.code loaded.columns (F.state shelf.old) (F.state shelf.new)) }
     ensures untold { IfOk result (λ _. err.new ≡ err.old) }
-    ensures told { IfErr result (λ status. AnswersEarly Elide name.now
+    ensures told { (counts : Option ℕ) → IfErr result (λ status. AnswersEarly counts Elide name.now
         (F.state shelf.old) (F.state shelf.new) (E.state err.old) (E.state err.new) status) }
 {
     let code = code_of(alloc, name, shelf, err)?;

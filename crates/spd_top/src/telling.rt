@@ -1,9 +1,11 @@
 // The lines for standard error, with the status that each tells.
 
 ghost use Rattle.std.specs.Prelude.{◌≡◌, ◌⊎◌, ◌%◌, codes, string_bytes, IfOk};
-ghost use Rattle.spd_top.specs.Told.{of_file, of_line, of_fault, lex_word, parse_word, check_word, data_word, fault_word};
+ghost use Rattle.spd_top.specs.Told.{of_file, of_line, of_counts, of_fault, lex_word, parse_word, check_word, data_word, fault_word};
+ghost use Rattle.spd_top.specs.Rising.{counts_told};
 ghost use Rattle.spd_top.specs.Serving.{words_refused, out_of_memory, GetsOrFails, Says, WantsMemory};
 
+use crate::counts::RegionCounts;
 use crate::status;
 use spd_check::CheckKind;
 use spd_cols::DataKind;
@@ -67,6 +69,18 @@ fn line_line(alloc: Global, name: &str, line: u64, what: &str) -> Result<String,
     told.push_str(what)?;
     told.push_str("\n")?;
     Ok(told)
+}
+
+/// The line that tells counts.
+fn counts_line(alloc: Global, counts: RegionCounts) -> Result<String, AllocError>
+    ensures { IfOk result (λ line. string_bytes line ≡ of_counts counts.regions counts.moves) }
+{
+    let mut line = String::from_str(alloc, "spd: regions ")?;
+    line.push_str(counts.regions.to_string(alloc)?.as_str())?;
+    line.push_str(", moves ")?;
+    line.push_str(counts.moves.to_string(alloc)?.as_str())?;
+    line.push_str("\n")?;
+    Ok(line)
 }
 
 /// The word that tells what is wrong with a text that can't be cut into tokens.
@@ -138,6 +152,20 @@ fn fault_word(kind: u64) -> &'static str
         "index out of range"
     } else {
         "calls too deep"
+    }
+}
+
+/// Tells counts, if there are any, and answers 0; or 5 where `err` fails.
+pub(crate) fn tell_counts<E: Sink>(alloc: Global, err: &mut E, counts: Option<RegionCounts>) -> u8
+    ensures { Says 0 (E.state err.old) (E.state err.new) (counts_told counts) result ⊎
+        WantsMemory (E.state err.old) (E.state err.new) result }
+{
+    let Some(counts) = counts else {
+        return status::DONE;
+    };
+    match counts_line(alloc, counts) {
+        Ok(line) => say(err, line.as_bytes(), status::DONE),
+        Err(_) => out_of_memory(err),
     }
 }
 

@@ -1,6 +1,7 @@
 -- Each way out answers for the words that the arguments are.
 use Rattle.std.proofs.Common.{List, ap, sym, subst, ◌∙◌}
 use Rattle.spd_top.specs.Told.{Bytes}
+use Rattle.spd_top.specs.BuiltIn.{shelf_for}
 use Rattle.spd_top.specs.Requests.{request_of}
 use Rattle.spd_top.specs.Serving.{ChangesNoUntouched}
 use Rattle.spd_top.proofs.Answering.{wanted}
@@ -25,11 +26,12 @@ returns-in-Ok-to_words-clause-uncalled_not_text g c =
 pub returns-in-Ok-to_words-clause-others : goal.returns-in-Ok-to_words-clause-others
 returns-in-Ok-to_words-clause-others g c =
     let are = c.in-Ok-to_words.ensures ∙ c.words_of-words.ensures ∙ ap words_of c.as_slice.ensures.entries in
-    rw c.in-Ok.is (λ text. subst (λ (words : List Bytes). ChangesNoUntouched (request_of words) (g.F.Shelf.state c.args.shelf.now) (g.F.Shelf.state c.serve_words.new.shelf)) are c.serve_words.ensures.others)
+    rw c.in-Ok.is (λ text. subst (λ (words : List Bytes). ChangesNoUntouched (request_of words) (shelf_for words (g.F.Shelf.state c.args.shelf.now)) (shelf_for words (g.F.Shelf.state c.serve_words.new.shelf))) are c.serve_words.ensures.others)
 
 pub returns-clause-answer : goal.returns-clause-answer
 returns-clause-answer g c =
-    rw c.in-Ok.is (λ text. wanted (request_of (words_of c.in-Ok.arguments)) (g.F.Shelf.state c.args.shelf.now) (g.F.Shelf.state c.args.shelf.now) (g.O.Sink.state c.args.out.now) (g.E.Sink.state c.args.err.now)
+    rw c.in-Ok.is (λ text. wanted (request_of (words_of c.in-Ok.arguments)) (shelf_for (words_of c.in-Ok.arguments) (g.F.Shelf.state c.args.shelf.now))
+    (shelf_for (words_of c.in-Ok.arguments) (g.F.Shelf.state c.args.shelf.now)) (g.O.Sink.state c.args.out.now) (g.E.Sink.state c.args.err.now)
     (g.E.Sink.state c.out_of_memory-in-Err.new.err) c.out_of_memory-in-Err.result c.out_of_memory-in-Err.ensures)
 
 pub returns-clause-not_text : goal.returns-clause-not_text

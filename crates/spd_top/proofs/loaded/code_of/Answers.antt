@@ -6,18 +6,18 @@ use Rattle.spd_top.proofs.Early.{ends_too_long, ends_unread, ends_wanted, ends_r
 use Rattle.spd_top.proofs.loaded.code_of.Goals as goal
 
 pub returns-in-Err-TooLong-clause-told : goal.returns-in-Err-TooLong-clause-told
-returns-in-Err-TooLong-clause-told g c command =
-    ends_too_long command c.args.name.now (g.F.Shelf.state c.args.shelf.now) (g.F.Shelf.state c.read.new.self) c.in-Err-TooLong.ensures.others (g.E.Sink.state c.args.err.now) (g.E.Sink.state c.refuse_program.new.err)
+returns-in-Err-TooLong-clause-told g c counts command =
+    ends_too_long counts command c.args.name.now (g.F.Shelf.state c.args.shelf.now) (g.F.Shelf.state c.read.new.self) c.in-Err-TooLong.ensures.others (g.E.Sink.state c.args.err.now) (g.E.Sink.state c.refuse_program.new.err)
     c.refuse_program.result (c.in-Err-TooLong.ensures.too_long (cc)) c.refuse_program.ensures
 
 pub returns-in-Err-Failed-clause-told : goal.returns-in-Err-Failed-clause-told
-returns-in-Err-Failed-clause-told g c command =
-    ends_unread command c.args.name.now (g.F.Shelf.state c.args.shelf.now) (g.F.Shelf.state c.read.new.self) c.in-Err-Failed.ensures.others (g.E.Sink.state c.args.err.now) (g.E.Sink.state c.fail_read.new.err)
+returns-in-Err-Failed-clause-told g c counts command =
+    ends_unread counts command c.args.name.now (g.F.Shelf.state c.args.shelf.now) (g.F.Shelf.state c.read.new.self) c.in-Err-Failed.ensures.others (g.E.Sink.state c.args.err.now) (g.E.Sink.state c.fail_read.new.err)
     c.fail_read.result (c.in-Err-Failed.ensures.failed (cc)) c.fail_read.ensures
 
 pub returns-in-Err-NoMemory-clause-told : goal.returns-in-Err-NoMemory-clause-told
-returns-in-Err-NoMemory-clause-told g c command =
-    ends_wanted command c.args.name.now (g.F.Shelf.state c.args.shelf.now) (g.F.Shelf.state c.read.new.self) c.in-Err-NoMemory.ensures.others (g.E.Sink.state c.args.err.now) (g.E.Sink.state c.out_of_memory.new.err)
+returns-in-Err-NoMemory-clause-told g c counts command =
+    ends_wanted counts command c.args.name.now (g.F.Shelf.state c.args.shelf.now) (g.F.Shelf.state c.read.new.self) c.in-Err-NoMemory.ensures.others (g.E.Sink.state c.args.err.now) (g.E.Sink.state c.out_of_memory.new.err)
     c.out_of_memory.result c.out_of_memory.ensures
 
 pub returns-in-Ok-build-clause-code : goal.returns-in-Ok-build-clause-code
@@ -32,7 +32,7 @@ returns-in-Ok-build-clause-code g c = record {
 }
 
 pub returns-clause-told : goal.returns-clause-told
-returns-clause-told g c command =
+returns-clause-told g c counts command =
     let found : IsRefused c.in-Ok.text.items c.in-Err.error = rw c.deref.ensures.value at c.in-Err.ensures.refused in
-    ends_refused command c.args.name.now (g.F.Shelf.state c.args.shelf.now) (g.F.Shelf.state c.read.new.self) c.in-Ok.ensures.others (g.E.Sink.state c.args.err.now) (g.E.Sink.state c.refuse_text.new.err)
+    ends_refused counts command c.args.name.now (g.F.Shelf.state c.args.shelf.now) (g.F.Shelf.state c.read.new.self) c.in-Ok.ensures.others (g.E.Sink.state c.args.err.now) (g.E.Sink.state c.refuse_text.new.err)
     c.refuse_text.result c.in-Ok.text.items c.in-Err.error c.in-Ok.ensures.whole c.in-Ok.ensures.within found c.refuse_text.ensures
