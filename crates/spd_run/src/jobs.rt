@@ -8,6 +8,7 @@ ghost use Rattle.spd_level.specs.Columns.{context_of};
 ghost use Rattle.spd_machine.specs.Elision.{job_eval};
 ghost use Rattle.spd_run.specs.JobLogs.{with_job};
 
+use spd_boxed::BoxedBody;
 use spd_code::CodeTree;
 use spd_data::Data;
 use spd_grow::Coin;
@@ -47,12 +48,13 @@ pub fn run_job_on_workers<'a, R: Threads + Wait + Sync, C: Coin, G: Gate>(
 {
     let kind = job.kind;
     let task = Task::of_job(alloc, code, columns, job)?;
+    let body = BoxedBody::new(alloc, task)?;
     let (field, share) = Field::new(alloc, plan)?;
     let RegionEnd {
         gift,
         fault,
         closed,
-    } = region(rt, alloc, field, share, kind, task, workers, coins, gate)?;
+    } = region(rt, alloc, field, share, kind, body, workers, coins, gate)?;
     log.add(closed);
     Ok(Given { gift, fault })
 }

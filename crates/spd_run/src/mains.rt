@@ -54,9 +54,11 @@ pub fn run_main_on_workers<R: Threads + Wait + Sync, C: Coin, G: Gate, O: Sink>(
     ensures kept { result ≢ Err RunError.WriteFailed → SameFaults (O.state out.old) (O.state out.new) }
 {
     let mut spine = Spine::new(alloc, code, columns)?;
+    let mut held = memory_of_a_region(alloc, &plan);
     loop {
         match spine.next(out) {
             SpineTurn::Region(job) => {
+                drop(held.take());
                 let given = run_job_on_workers(
                     rt, alloc, code, columns, job, plan, workers, coins, gate, log,
                 )?;
@@ -67,5 +69,14 @@ pub fn run_main_on_workers<R: Threads + Wait + Sync, C: Coin, G: Gate, O: Sink>(
             SpineTurn::Stopped => return Err(RunError::WriteFailed),
             SpineTurn::NoMemory => return Err(RunError::NoMemory),
         }
+    }
+}
+
+/// As much memory as a region takes for its table, where there is so much. Once it has been let go, glibc's
+/// allocator keeps the memory of one region for the next, and the system need not clear it anew.
+fn memory_of_a_region(alloc: Global, plan: &Plan) -> Option<Vec<u64>> {
+    match Vec::with_capacity(alloc, 3 * plan.words() as usize) {
+        Ok(memory) => Some(memory),
+        Err(_) => None,
     }
 }

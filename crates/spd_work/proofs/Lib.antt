@@ -22,3 +22,4 @@ pub mod Seatings
 pub mod Signalled
 pub mod Started
 pub mod WorkerRests
+pub mod Working

@@ -1,6 +1,6 @@
 -- One worker more, with a share that is split off; and the last one, with the share that made the region.
 use Rattle.std.proofs.Common.{arith, ◌≡◌, ◌+◌, ◌*◌, ◌<◌, ◌≤◌, ℕ, List, [], ◌∷◌}
-use Rattle.std.proofs.Common.{◌++◌, length, All, refl, sym, ap, ◌∙◌, subst, Option, None, Some}
+use Rattle.std.proofs.Common.{◌++◌, false, length, All, refl, sym, ap, ◌∙◌, subst, Option, None, Some}
 use Rattle.std.proofs.lemmas.List.{length-append}
 use Rattle.std.proofs.lemmas.List.Elements.{All-append, All-cons, All-nil}
 use Rattle.spd_state.specs.Seats.{given_view, kept_view}
@@ -60,7 +60,7 @@ kept_made v n few h = record {
 }
 
 abbrev pub new_worker : {B Q : Type 0} → Share B → Q → ℕ → Worker B Q
-new_worker s ready number = record { hands = record { share = s; ready = ready }; number = number; ended = None }
+new_worker s ready number = record { hands = record { share = s; ready = ready; spawned = false }; number = number; ended = None }
 
 module _ {B Q : Type 0} (room pushed : Q → ℕ) (f : Field B) where
   may_begin : (s : Share B) (ready : Q) (number : ℕ) (made : Whole) → IsOf f s → (share_view s).whole ≡ Some made → made.wild ≡ 0 →

@@ -126,6 +126,7 @@ fn on_async<R: Wait, B: Body, Q: Ready>(
         Spawned::Two { left, right } => {
             hands.ready.push(rt, left);
             hands.ready.push(rt, right);
+            hands.spawned = true;
             None
         }
         Spawned::Full { body, rest } => {

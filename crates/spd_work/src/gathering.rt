@@ -36,7 +36,11 @@ pub(crate) fn gather<B: Body, Q: Ready + Drop>(
         number: _,
         ended,
     } = first;
-    let Hands { share, ready: _ } = hands;
+    let Hands {
+        share,
+        ready: _,
+        spawned: _,
+    } = hands;
     let mut share = share;
     let mut ended = ended;
     loop {
@@ -72,6 +76,7 @@ fn take_in<B: Body, Q: Ready + Drop>(
     let Hands {
         share: other,
         ready: _,
+        spawned: _,
     } = hands;
     field.join(share, other);
     if theirs.is_some() { theirs } else { ended }

@@ -7,4 +7,6 @@ use spd_rule::Share;
 pub(crate) struct Hands<B, Q> {
     pub share: Share<B>,
     pub ready: Q,
+    /// It has spawned, so that two vertices were ready at once.
+    pub spawned: bool,
 }

@@ -79,6 +79,7 @@ fn add_worker<B: Body, Q: Ready + Drop>(
         hands: Hands {
             share: other,
             ready,
+            spawned: false,
         },
         number,
         ended: None,
@@ -102,7 +103,11 @@ fn add_first<R: Wait, B: Body, Q: Ready + Drop>(
     let mut ready = ready;
     ready.push(rt, 0);
     workers.push_reserved(Worker {
-        hands: Hands { share, ready },
+        hands: Hands {
+            share,
+            ready,
+            spawned: false,
+        },
         number: 0,
         ended: None,
     });

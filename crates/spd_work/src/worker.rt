@@ -6,6 +6,7 @@ ghost use Rattle.spd_state.specs.declared.promise.Whole.{Whole};
 ghost use Rattle.spd_state.specs.declared.view.Running.{Running};
 ghost use Rattle.spd_rule.specs.Payments.{KnowsBooks};
 ghost use Rattle.spd_rule.specs.Shares.{IsOf, IsSame, field_plan, share_view};
+ghost use Rattle.spd_work.specs.Crew.{HasWorked};
 ghost use Rattle.spd_work.specs.Hands.{Sits};
 ghost use Rattle.spd_work.specs.Runs.{Rests, RunsOn, RunsTheEnd, RunsNew, Lasts, Stays};
 ghost use Rattle.spd_work.specs.Starts.{RunsStarted};
@@ -49,6 +50,30 @@ pub(crate) fn work<R: Wait, B: Body, Q: Ready, G: Gate>(
     for _ in rt.forever() {
         if work_once(rt, alloc, field, kind, gate, worker) {
             return;
+        }
+    }
+    unreachable!()
+}
+
+/// The same, until the end has run, which is the answer, or until two vertices were ready at once, of which it
+/// can take only one.
+pub(crate) fn work_alone<R: Wait, B: Body, Q: Ready, G: Gate>(
+    rt: &R,
+    alloc: Global,
+    field: &Field<B>,
+    kind: FinishKind,
+    gate: &G,
+    worker: &mut Worker<B, Q>,
+) -> bool
+    requires works { WorkerRests Q.room Q.pushed field.now kind worker.old }
+    ensures { HasWorked Q.room Q.pushed field.now kind worker.old worker.new }
+{
+    for _ in rt.forever() {
+        if work_once(rt, alloc, field, kind, gate, worker) {
+            return true;
+        }
+        if worker.hands.spawned {
+            return false;
         }
     }
     unreachable!()

@@ -13,7 +13,7 @@ use crate::gate::Gate;
 use crate::gathering::gather;
 use crate::placing::{handles_on, place};
 use crate::region_end::RegionEnd;
-use crate::worker::{Worker, work};
+use crate::worker::{Worker, work, work_alone};
 use spd_dag::make;
 use spd_grow::Coin;
 use spd_ready::{LockedList, Ready};
@@ -96,8 +96,27 @@ fn run_region<R: Threads + Wait + Sync, B: Body, G: Gate, Q: Ready + Drop>(
     })
 }
 
-/// Each worker runs until the end has run, in a thread of its own where one can be made.
+/// Worker 0, the last one, runs alone until there is work for another, and then all run.
 fn run_all<R: Threads + Wait + Sync, B: Body, G: Gate, Q: Ready>(
+    rt: &R,
+    alloc: Global,
+    field: &Field<B>,
+    kind: FinishKind,
+    gate: &G,
+    workers: &mut Vec<Worker<B, Q>>,
+)
+    requires some { 0 < length workers.old.items }
+    requires works { All (WorkerRests Q.room Q.pushed field.now kind) workers.old.items }
+    ensures { EachPair (HasWorked Q.room Q.pushed field.now kind) workers.old.items workers.new.items }
+{
+    let first = workers.len() - 1;
+    if !work_alone(rt, alloc, field, kind, gate, &mut workers[first]) {
+        run_together(rt, alloc, field, kind, gate, workers);
+    }
+}
+
+/// Each worker runs until the end has run, in a thread of its own where one can be made.
+fn run_together<R: Threads + Wait + Sync, B: Body, G: Gate, Q: Ready>(
     rt: &R,
     alloc: Global,
     field: &Field<B>,

@@ -50,6 +50,31 @@ impl Gate for Noting {
     }
 }
 
+/// Notes which workers started a vertex: a bit for each.
+#[derive(Drop)]
+pub struct Starters {
+    numbers: AtomicU64,
+}
+
+impl Starters {
+    pub fn new() -> Starters {
+        Starters {
+            numbers: AtomicU64::new(0),
+        }
+    }
+
+    pub fn numbers(&self) -> u64 {
+        self.numbers.load(Ordering::SeqCst)
+    }
+}
+
+impl Gate for Starters {
+    fn started(&self, worker: u32, _vertex: u32) {
+        self.numbers
+            .fetch_or(1u64.checked_shl(worker).unwrap_or(0), Ordering::SeqCst);
+    }
+}
+
 fn zeros(alloc: Global, count: u32) -> Result<Vec<AtomicU64>, AllocError> {
     let mut all = Vec::new(alloc);
     for _ in 0..count {

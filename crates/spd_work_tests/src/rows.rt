@@ -1,7 +1,7 @@
 // What regions give, and how many moves they draw, on so many workers and within each bound of moves.
 
 use crate::gates::Noting;
-use crate::running::{Case, run, run_body};
+use crate::running::{Case, run, run_body, run_boxed};
 use crate::starving::Starving;
 use spd_words::{FinishKind, NO_FAULT};
 use spd_work::Open;
@@ -11,8 +11,9 @@ const WORKERS: [u32; 5] = [1, 2, 3, 8, 64];
 
 /// Gift, fault and moves, worked out by hand, are the same on any number of workers, and within any bound of
 /// moves, where the moves are as many as the bound has: behind it a body goes on inside the vertex that came
-/// to it. This refuses each body that no clause does: one that answers want of memory in place of all
-/// else, and one that never comes to an end, as where a ready vertex is never pushed.
+/// to it; and the same where each body lies behind a pointer. This refuses each body that no clause does: one
+/// that answers want of memory in place of all else, and one that never comes to an end, as where a ready
+/// vertex is never pushed.
 #[test]
 fn a_region_gives_the_same_on_any_number_of_workers(rt: HostRuntime) -> Result<(), Fail> {
     let (plain, sum) = (FinishKind::Plain, FinishKind::Sum);
@@ -45,6 +46,9 @@ fn a_region_gives_the_same_on_any_number_of_workers(rt: HostRuntime) -> Result<(
                 let given = (end.gift, end.fault, end.closed.moves());
                 let want = (gift, fault, moves.min(bound));
                 assert_eq!(rt; given, want, "{text} within {bound}, on {workers}");
+                let boxed = run_boxed(&rt, rt.alloc(), case, bound, workers, &Open)?;
+                let given = (boxed.gift, boxed.fault, boxed.closed.moves());
+                assert_eq!(rt; given, want, "{text} within {bound}, on {workers}, boxed");
             }
         }
     }

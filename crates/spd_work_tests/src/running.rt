@@ -6,6 +6,7 @@ ghost use Rattle.spd_words.specs.Meaning.{IsTame};
 ghost use Rattle.spd_words.specs.Plan.{MayHaveMoves};
 ghost use Rattle.spd_words.specs.declared.scheme.Scheme.TheVariants.{Flat};
 
+use spd_boxed::BoxedBody;
 use spd_grow::Heads;
 use spd_rule::Field;
 use spd_script::{Script, steps_of};
@@ -70,6 +71,24 @@ pub fn run<R: Threads + Wait + Sync, G: Gate>(
     requires workers { (0 < workers) × (workers ≤ 64) }
 {
     let body = Script::new(case.kind, steps_of(alloc, case.text.as_bytes())?);
+    let end = run_body(rt, alloc, case.kind, body, moves, workers, gate)?;
+    Ok(end)
+}
+
+/// The same, where each body lies behind a pointer.
+pub fn run_boxed<R: Threads + Wait + Sync, G: Gate>(
+    rt: &R,
+    alloc: Global,
+    case: Case<'_>,
+    moves: u32,
+    workers: u32,
+    gate: &G,
+) -> Result<RegionEnd<BoxedBody<Script>>, AllocError>
+    requires moves { MayHaveMoves moves }
+    requires workers { (0 < workers) × (workers ≤ 64) }
+{
+    let script = Script::new(case.kind, steps_of(alloc, case.text.as_bytes())?);
+    let body = BoxedBody::new(alloc, script)?;
     let end = run_body(rt, alloc, case.kind, body, moves, workers, gate)?;
     Ok(end)
 }

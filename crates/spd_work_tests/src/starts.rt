@@ -3,7 +3,7 @@
 ghost use Rattle.std.specs.Prelude.{◌*◌, ◌<◌, ◌≤◌};
 ghost use Rattle.spd_words.specs.Plan.{MayHaveMoves};
 
-use crate::gates::Noting;
+use crate::gates::{Noting, Starters};
 use crate::running::{Case, run};
 use spd_words::FinishKind;
 use std::alloc::Global;
@@ -53,6 +53,28 @@ fn each_vertex_is_started_once_and_vertex_1_last(rt: HostRuntime) {
             for workers in [1, 2, 3, 8] {
                 check(&rt, rt.alloc(), text, bound, workers);
             }
+        }
+    }
+}
+
+/// Where no async is met, or none gets a vertex of its own, worker 0 starts each vertex, on any number of
+/// workers. This refuses a region that starts all threads at once: there another worker may be the first.
+#[test]
+fn without_an_async_worker_0_starts_all(rt: HostRuntime) {
+    for (text, bound) in [("", 1), ("35", 4), ("(46)L1", 4), ("1(2)3", 1)] {
+        for workers in [2, 8, 64] {
+            let starters = Starters::new();
+            let kind = FinishKind::Sum;
+            let end = run(
+                &rt,
+                rt.alloc(),
+                Case { kind, text },
+                bound,
+                workers,
+                &starters,
+            );
+            assert!(&rt; end.is_ok(), "{text} on {workers}");
+            assert_eq!(&rt; starters.numbers(), 1, "{text} on {workers}");
         }
     }
 }
