@@ -15,6 +15,7 @@ pub mod Begins
 pub mod Counts
 pub mod Roots
 pub mod Mirrors
+pub mod Joining
 pub mod Draws
 pub mod Starts
 pub mod Sets

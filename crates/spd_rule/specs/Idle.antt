@@ -1,5 +1,5 @@
 -- How the numbers beside a seat change.
-use Rattle.std.specs.Prelude.{◌≡◌, ◌+◌, ◌<◌, ℕ, List, [], Option, Some, None, Bool, true, false, length, cond, not}
+use Rattle.std.specs.Prelude.{◌≡◌, ◌+◌, ◌<◌, ℕ, List, [], Option, Some, None, Bool, true, false, length, cond, not, min, ◌||◌}
 use Rattle.spd_state.specs.Sums.{same, count}
 use Rattle.spd_words.specs.Words.{vertex_of}
 use Rattle.spd_state.specs.Steps.{keep_if, is_over, start_run}
@@ -65,6 +65,14 @@ pub record WakesBeside (old new : Beside) : Type 0 where
 -- The vertex i runs, whose word was seen.
 abbrev pub StartsBeside : ℕ → ℕ → Beside → Beside → Type 0
 StartsBeside i seen old new = new ≡ record old { running = Some (start_run i (vertex_of seen)); starts = old.starts + 1 }
+
+-- The spare seats and the starts of another share come to these, as far as the type goes, and so does its mark.
+abbrev pub JoinsBeside : Beside → Beside → Beside → Type 0
+JoinsBeside old other new = new ≡ record old {
+  spare = old.spare + other.spare;
+  full = old.full || other.full;
+  starts = min (old.starts + other.starts) 18446744073709551615;
+}
 
 -- the move in flight at this stage
 abbrev pub flight_at : ℕ → Option Flight → Option Flight

@@ -8,7 +8,7 @@ ghost use Rattle.spd_rule.specs.Steps.{drawn_flight};
 ghost use Rattle.spd_state.specs.declared.view.Flight.{Flight};
 ghost use Rattle.spd_rule.specs.Moves.{after_first, less_first};
 ghost use Rattle.spd_rule.specs.Rest.{due, due_at};
-ghost use Rattle.spd_rule.specs.Idle.{IsNewBeside, StoresFirst, StoresLast, flight_at, flies_spawn, PairsRoot, PairsUnits, DrawsBeside, HoldsOneMore, DepartsFrom, WakesBeside, StartsBeside, TakesUnit, IsSettled};
+ghost use Rattle.spd_rule.specs.Idle.{IsNewBeside, StoresFirst, StoresLast, flight_at, flies_spawn, PairsRoot, PairsUnits, DrawsBeside, HoldsOneMore, DepartsFrom, WakesBeside, StartsBeside, JoinsBeside, TakesUnit, IsSettled};
 
 use arrayvec::ArrayVec;
 use spd_state::{Draw, Flight, Running};
@@ -165,6 +165,16 @@ impl Beside {
         self.claimed = without_unit(self.claimed, taken);
         self.told = with_told(self.told, last);
         self.running = settled(self.running, self.flight, self.claimed, self.told);
+    }
+
+    /// The spare seats and the starts of another share come to these, and that it has seen the moves full.
+    pub fn join(&mut self, other: Beside)
+        requires spare { self.old.spare + other.spare < 65 }
+        ensures { JoinsBeside self.old other self.new }
+    {
+        self.spare += other.spare;
+        self.full = self.full || other.full;
+        self.starts = self.starts.saturating_add(other.starts);
     }
 
     /// A finish is told no more. A share whose vertex is over runs nothing.

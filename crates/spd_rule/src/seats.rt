@@ -102,10 +102,7 @@ impl<B: Body> Field<B> {
         self.table
             .shared
             .join_seat::<JoinViews>(&mut share.seat, seat);
-        share.beside.spare += beside.spare;
-        share.beside.full = share.beside.full || beside.full;
-        share.beside.starts = share.beside.starts.saturating_add(beside.starts);
-        drop(beside);
+        share.beside.join(beside);
     }
 }
 
