@@ -93,7 +93,8 @@ fn run_job<R: Threads + Wait + Sync, O: Sink, E: Sink, C: Coin, G: Gate>(
     requires rows { rows ≤ 1000000 }
     requires ranges { AreInRange settings }
     requires coins { 64 ≤ length coins.old }
-    ensures answer { Answer (Some (over Elide job_name (counts_for settings))) (job_shelf rows seed) (job_shelf rows seed)
+    ensures answer { Answer (Some (over Elide job_name (counts_for settings)))
+        (job_shelf rows seed) (job_shelf rows seed)
         (O.state out.old) (O.state out.new) (E.state err.old) (E.state err.new) result }
     ensures read { result ≢ 4 }
     ensures log { EndsRun result → LogsRun settings (Some (over Elide job_name (counts_for settings)))
