@@ -5,6 +5,7 @@ ghost use Rattle.spd_dag_tests.specs.Crews.{IsCrew};
 use crate::crew::Crew;
 use crate::deeds::{Deed, Forks};
 use crate::model::Model;
+use crate::picks::{Path, Picks};
 use spd_fork::{Piece, Worker};
 use spd_rule::Field;
 use spd_words::{Plan, Scheme};
@@ -40,64 +41,6 @@ fn crew_of(rt: &impl Abort, alloc: Global, case: Case) -> Crew
     crew
 }
 
-/// The choices of one schedule: which of how many deeds was taken at each step.
-#[derive(Drop)]
-struct Path {
-    taken: Vec<(usize, usize)>,
-    at: usize,
-}
-
-impl Path {
-    /// The next choice among so many: the one of the path, or the first at its end.
-    fn choose(&mut self, rt: &impl Abort, of: usize) -> usize {
-        let at = self.at;
-        self.at = at.saturating_add(1);
-        if let Some((choice, _)) = self.taken.get(at).copied() {
-            return choice;
-        }
-        self.taken.push((0, of)).expect(rt, "memory");
-        0
-    }
-
-    /// Goes on to the next path; says whether there is one.
-    fn advance(&mut self, rt: &impl Abort) -> bool {
-        self.at = 0;
-        for _ in 0..u64::MAX {
-            let Some((choice, of)) = self.taken.pop() else {
-                return false;
-            };
-            let next = choice.saturating_add(1);
-            if next < of {
-                self.taken.push((next, of)).expect(rt, "memory");
-                return true;
-            }
-        }
-        false
-    }
-}
-
-/// Who picks the next deed: a path of choices, or numbers drawn from a seed.
-#[derive(Drop)]
-enum Picks {
-    Path(Path),
-    Seed(u64),
-}
-
-impl Picks {
-    fn pick(&mut self, rt: &impl Abort, of: usize) -> usize {
-        match self {
-            Picks::Path(path) => path.choose(rt, of),
-            Picks::Seed(seed) => {
-                *seed = seed
-                    .wrapping_mul(6_364_136_223_846_793_005)
-                    .wrapping_add(1_442_695_040_888_963_407);
-                let high = (*seed / 4_294_967_296) as usize;
-                if of == 0 { 0 } else { high % of }
-            }
-        }
-    }
-}
-
 /// Plays one schedule to its end, and compares each answer and each word of a vertex with the model.
 fn play(
     rt: &impl Abort,
@@ -116,7 +59,7 @@ fn play(
         if deeds.is_empty() {
             break;
         }
-        let pick = picks.pick(rt, deeds.len());
+        let pick = picks.pick(deeds.len()).expect(rt, "memory");
         let (at, deed) = deeds.get(pick).copied().expect(rt, "a choice");
         let expected = model.play(at, deed);
         assert!(rt; expected.is_some(), "{deed:?} of {at}");
@@ -162,17 +105,10 @@ fn check_end(rt: &impl Abort, crew: Crew, model: &Model, case: Case)
 /// Plays all schedules of the case, and gives their number.
 fn explore(rt: &impl Abort, alloc: Global, case: Case) -> u64 {
     let mut deeds = Vec::new(alloc);
-    let mut picks = Picks::Path(Path {
-        taken: Vec::new(alloc),
-        at: 0,
-    });
+    let mut picks = Picks::Path(Path::new(alloc));
     for played in 1..u64::MAX {
         play(rt, alloc, case, &mut picks, &mut deeds);
-        let goes_on = match &mut picks {
-            Picks::Path(path) => path.advance(rt),
-            Picks::Seed(_) => false,
-        };
-        if !goes_on {
+        if !picks.advance().expect(rt, "memory") {
             return played;
         }
     }

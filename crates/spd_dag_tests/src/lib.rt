@@ -5,11 +5,13 @@
 mod crew;
 mod deeds;
 mod model;
+mod picks;
 mod playing;
 
 pub use crew::Crew;
 pub use deeds::{Answer, Deed, Forks};
 pub use model::Model;
+pub use picks::{Path, Picks};
 
 #[cfg(test)]
 mod explorer;

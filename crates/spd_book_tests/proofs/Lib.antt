@@ -1,0 +1,2 @@
+-- The one clause of crew.rt: the players of a team stay those of its field (specs/Crews), since each turn keeps its own.
+-- The model and the scripts have no clause: they are safe, and the tests compare them with the words.
