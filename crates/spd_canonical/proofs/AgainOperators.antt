@@ -14,7 +14,8 @@ use Rattle.spd_syntax.specs.Tokens as t
 use Rattle.spd_syntax.specs.Tokens.{Symbol, Seen}
 use Rattle.spd_syntax.specs.Symbols.{same_mark, same_word, same_kind, kind_of, bytes_of}
 use Rattle.spd_syntax.specs.Shape.{Shape, give, seq, either, entry_of, Spelling}
-use Rattle.spd_syntax.specs.Grammar.{top, primary, unary, comparisons, Row, of_level, by_mark, operators, operator, operation, operations, compose, into, behind_operand, at_level, expression}
+use Rattle.spd_syntax.specs.Operators.{Row, row_in, same_operator}
+use Rattle.spd_syntax.specs.Grammar.{top, primary, unary, comparisons, of_level, by_mark, operators, operator, operation, operations, compose, into, behind_operand, at_level, expression}
 use Rattle.spd_canonical.specs.Canonical.{in_parens, Printed, printed_of, expression_symbols, operand_symbols, left_of_level, binary_level, binary_mark}
 use Rattle.spd_canonical.proofs.Equations.{printed_binary}
 use Rattle.spd_canonical.proofs.KindSymbols.{mark_symbol}
@@ -164,7 +165,7 @@ module _ (inner : Spelling) where
   pub says_binary : (op : BinOp) (x y : Expr) (a b : List Symbol) → Says inner (shape_at (left_of_level (binary_level op))) (Is x) a
       → Says inner (shape_at (binary_level op)) (Is y) b → Says inner (shape_at (suc (binary_level op))) (Is (e.Binary op x y))
       (a ++ t.mark (binary_mark op) ∷ b)
-  unfolding same_mark
+  unfolding same_mark same_operator
   says_binary b.Or x y a c h g = says_grouped 4 b.Or refl x y a c g refl h
   says_binary b.And x y a c h g = says_grouped 3 b.And refl x y a c g refl h
   says_binary b.Eq x y a c h g = says_compared 2 b.Eq refl x y a c g refl h
@@ -261,6 +262,7 @@ module _ (inner : Spelling) where
   -- ---- operators
 
   level_low : (op : BinOp) → binary_level op ≤ 5
+  unfolding same_operator
   level_low b.Or = omega arith
   level_low b.And = omega arith
   level_low b.Eq = omega arith
@@ -330,7 +332,7 @@ module _ (inner : Spelling) where
         by_test false is more = more
 
     all_operator : All inner (operator level) (IsMarkOf level)
-    unfolding operator
+    unfolding operator same_operator
     all_operator = all_token inner (map by_mark (of_level level OPERATORS)) _
         (fitting OPERATORS (
           refl,

@@ -5,6 +5,7 @@ use Rattle.spd_syntax.specs.declared.token.Mark.TheVariants as m
 use Rattle.spd_syntax.specs.declared.counts.Counts.{Counts}
 use Rattle.spd_syntax.specs.declared.token.Word.TheVariants as w
 use Rattle.spd_syntax.specs.Tokens.{Symbol, word, mark, Seen}
+use Rattle.spd_syntax.specs.Symbols.{same_mark}
 use Rattle.spd_syntax.specs.Limits.{counts_with, counts_behind, and_then}
 use Rattle.spd_canonical.specs.Canonical.{in_parens, between_marks}
 use Rattle.spd_canonical.proofs.Says.{symbols}
@@ -66,7 +67,7 @@ same_between o c a b h = same_cons (mark o) (a ++ mark c ∷ []) (b ++ mark c �
 
 -- Parentheses count nothing.
 pub same_parens : (a : List Symbol) → SameCounts (in_parens a) a
-unfolding counts_with
+unfolding counts_with same_mark
 same_parens a = record { is = λ n. counts_both n a (mark m.RightParen ∷ []) ∙ then_some (counts_of n a) }
 
 -- An empty block behind `else` counts nothing.

@@ -8,7 +8,6 @@ use Rattle.spd_syntax.specs.declared.token.Mark.TheVariants as m
 use Rattle.spd_syntax.specs.declared.tree.UnOp.{UnOp}
 use Rattle.spd_syntax.specs.declared.tree.UnOp.TheVariants as u
 use Rattle.spd_syntax.specs.declared.tree.BinOp.{BinOp}
-use Rattle.spd_syntax.specs.declared.tree.BinOp.TheVariants as b
 use Rattle.spd_syntax.specs.declared.tree.Expr.{Expr, fold-Expr}
 use Rattle.spd_syntax.specs.declared.tree.Expr.TheOpen.{Expr-F}
 use Rattle.spd_syntax.specs.declared.tree.PrintPart.{PrintPart}
@@ -22,6 +21,8 @@ use Rattle.spd_syntax.specs.declared.tree.ItemKind.{ItemKind}
 use Rattle.spd_syntax.specs.declared.tree.ItemKind.TheVariants as i
 use Rattle.spd_syntax.specs.declared.tree.Item.{Item}
 use Rattle.spd_syntax.specs.declared.tree.Program.{Program}
+use Rattle.spd_syntax.specs.declared.operators.TheConstants.{OPERATORS}
+use Rattle.spd_syntax.specs.Operators.{row_in}
 use Rattle.spd_syntax.specs.Tokens as t
 use Rattle.spd_syntax.specs.Tokens.{Symbol}
 
@@ -35,36 +36,12 @@ escaped b = if b == 34 || b == 92 then 92 ∷ b ∷ [] else b ∷ []
 unfoldable pub quoted_text : List ℕ → List ℕ
 quoted_text z = 34 ∷ (flat_map escaped z ++ 34 ∷ [])
 
--- the levels of operators: a lower one binds more tightly
+-- the level of an operator: a lower one binds more tightly
 abbrev pub binary_level : BinOp → ℕ
-binary_level b.Or = 5
-binary_level b.And = 4
-binary_level b.Eq = 3
-binary_level b.Ne = 3
-binary_level b.Lt = 3
-binary_level b.Le = 3
-binary_level b.Gt = 3
-binary_level b.Ge = 3
-binary_level b.Add = 2
-binary_level b.Sub = 2
-binary_level b.Mul = 1
-binary_level b.Div = 1
-binary_level b.Rem = 1
+binary_level op = (row_in op OPERATORS).1
 
 abbrev pub binary_mark : BinOp → Mark
-binary_mark b.Or = m.OrOr
-binary_mark b.And = m.AndAnd
-binary_mark b.Eq = m.Equal
-binary_mark b.Ne = m.NotEqual
-binary_mark b.Lt = m.Less
-binary_mark b.Le = m.LessEqual
-binary_mark b.Gt = m.Greater
-binary_mark b.Ge = m.GreaterEqual
-binary_mark b.Add = m.Plus
-binary_mark b.Sub = m.Minus
-binary_mark b.Mul = m.Star
-binary_mark b.Div = m.Slash
-binary_mark b.Rem = m.Percent
+binary_mark op = (row_in op OPERATORS).0
 
 abbrev pub unary_mark : UnOp → Mark
 unary_mark u.Neg = m.Minus

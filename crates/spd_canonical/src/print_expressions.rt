@@ -6,7 +6,7 @@ ghost use Rattle.spd_canonical.specs.Canonical as spec;
 ghost use Rattle.spd_canonical.specs.Layout.{laid};
 
 use crate::page::Page;
-use spd_syntax::{BinOp, Expr, Exprs, Lit, Mark, Name, UnOp, Word};
+use spd_syntax::{BinOp, Expr, Exprs, Lit, Mark, Name, UnOp, Word, row_of};
 use std::alloc::{AllocError, Global};
 
 /// The level of an operator, of which a lower one binds more tightly.
@@ -14,33 +14,7 @@ fn binary_level(op: BinOp) -> u32
     ensures value { result ≡ spec.binary_level op }
     ensures bound { result ≤ 5 }
 {
-    match op {
-        BinOp::Or => 5,
-        BinOp::And => 4,
-        BinOp::Eq | BinOp::Ne | BinOp::Lt | BinOp::Le | BinOp::Gt | BinOp::Ge => 3,
-        BinOp::Add | BinOp::Sub => 2,
-        BinOp::Mul | BinOp::Div | BinOp::Rem => 1,
-    }
-}
-
-fn binary_mark(op: BinOp) -> Mark
-    ensures { result ≡ spec.binary_mark op }
-{
-    match op {
-        BinOp::Or => Mark::OrOr,
-        BinOp::And => Mark::AndAnd,
-        BinOp::Eq => Mark::Equal,
-        BinOp::Ne => Mark::NotEqual,
-        BinOp::Lt => Mark::Less,
-        BinOp::Le => Mark::LessEqual,
-        BinOp::Gt => Mark::Greater,
-        BinOp::Ge => Mark::GreaterEqual,
-        BinOp::Add => Mark::Plus,
-        BinOp::Sub => Mark::Minus,
-        BinOp::Mul => Mark::Star,
-        BinOp::Div => Mark::Slash,
-        BinOp::Rem => Mark::Percent,
-    }
+    row_of(op).1
 }
 
 fn unary_mark(op: UnOp) -> Mark
@@ -127,7 +101,7 @@ fn put_left(alloc: Global, page: &mut Page, op: BinOp, x: &Expr) -> Result<(), A
     ensures { OnOk result (page.new ≡ laid page.old (spec.left_symbols op (spec.printed_of x.now))) }
 {
     put_operand(alloc, page, left_of_level(binary_level(op)), x)?;
-    page.put_mark(binary_mark(op))
+    page.put_mark(row_of(op).0)
 }
 
 fn put_len(page: &mut Page, name: &Name) -> Result<(), AllocError>

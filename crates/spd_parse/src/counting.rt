@@ -3,32 +3,10 @@
 ghost use Rattle.std.specs.Prelude.{◌≡◌, ◌≤◌, ℕ, List, length, map, IfSome};
 ghost use Rattle.spd_syntax.specs.Tokens.{seen};
 ghost use Rattle.spd_syntax.specs.Symbols.{all_seen};
-ghost use Rattle.spd_syntax.specs.Limits.{is_operator_mark, ends_stretch_mark, with_name, counts_with, no_counts};
+ghost use Rattle.spd_syntax.specs.Limits.{ends_stretch_mark, with_name, counts_with, no_counts};
 ghost use Rattle.spd_parse.specs.Counting.{first_over, AreWithin};
 
-use spd_syntax::{Counts, Mark, NameRole, Token, TokenKind, Word};
-
-fn is_operator(mark: Mark) -> bool
-    ensures { result ≡ is_operator_mark mark }
-{
-    matches!(
-        mark,
-        Mark::Equal
-            | Mark::NotEqual
-            | Mark::Less
-            | Mark::LessEqual
-            | Mark::Greater
-            | Mark::GreaterEqual
-            | Mark::Plus
-            | Mark::Minus
-            | Mark::Star
-            | Mark::Slash
-            | Mark::Percent
-            | Mark::AndAnd
-            | Mark::OrOr
-            | Mark::Not
-    )
-}
+use spd_syntax::{Counts, Mark, NameRole, Token, TokenKind, Word, is_operator};
 
 fn ends_stretch(mark: Mark) -> bool
     ensures { result ≡ ends_stretch_mark mark }

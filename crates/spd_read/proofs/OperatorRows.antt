@@ -12,7 +12,8 @@ use Rattle.spd_syntax.specs.declared.operators.TheConstants.{OPERATORS}
 use Rattle.spd_syntax.specs.Symbols.{same_kind, same_mark, all_seen, is_in}
 use Rattle.spd_read.specs.Reading.{reads_at, next_kind, next_in}
 use Rattle.spd_syntax.specs.Shape.{fst, entry_of}
-use Rattle.spd_syntax.specs.Grammar.{Row, of_level, by_mark, operator_in, operator, operators}
+use Rattle.spd_syntax.specs.Operators.{Row}
+use Rattle.spd_syntax.specs.Grammar.{of_level, by_mark, operator_in, operator, operators}
 
 abbrev pub Value : Type 0
 Value = List ℕ → ℕ → BinOp

@@ -30,6 +30,7 @@ use Rattle.spd_syntax.specs.declared.tree.Item.{Item}
 use Rattle.spd_syntax.specs.declared.tree.Program.{Program}
 use Rattle.spd_syntax.specs.Symbols.{value_of, same_mark}
 use Rattle.spd_syntax.specs.Shape.{fst, Shape, token, give, folds, nest, Nonterminal, ByteList, NonterminalValue, expr, args, params, stmts, a_name, name_place, name_two_places, name_place_text}
+use Rattle.spd_syntax.specs.Operators.{Row}
 use Rattle.spd_syntax.specs.Shapes.{◌⊛◌, ◌⊲◌, ◌◃◌, ◌⇒◌∣◌, ◌▹◌, a_word, a_mark, words, word, mark, name, name_and_line, text, many, separated, between}
 
 -- ---- expressions
@@ -105,9 +106,6 @@ comparisons = 3
 
 abbrev pub top : ℕ
 top = 5
-
-abbrev pub Row : Type 0
-Row = Mark × BinOp × ℕ
 
 -- the operators of a level, by their marks
 abbrev pub of_level : ℕ → List Row → List (TokenKind × BinOp)

@@ -2,6 +2,7 @@ pub mod Tokens
 pub mod Symbols
 pub mod Shape
 pub mod Shapes
+pub mod Operators
 pub mod Grammar
 pub mod PageForms
 pub mod OneAhead

@@ -1,18 +1,20 @@
 -- The limits of a program. They are facts of its tokens, of which none knows the grammar.
-use Rattle.std.specs.Prelude.{◌≡◌, ℕ, suc, ◌+◌, ◌-◌, nat_le, Bool, true, false, ◌&&◌, if◌then◌else◌, List, [], ◌∷◌, Option, Some, None}
+use Rattle.std.specs.Prelude.{◌≡◌, ℕ, suc, ◌+◌, ◌-◌, nat_le, Bool, true, false, ◌&&◌, ◌||◌, if◌then◌else◌, List, [], ◌∷◌, Option, Some, None}
 use Rattle.spd_syntax.specs.declared.token.Word.{Word}
 use Rattle.spd_syntax.specs.declared.token.Word.TheVariants as w
 use Rattle.spd_syntax.specs.declared.token.Mark.{Mark}
 use Rattle.spd_syntax.specs.declared.token.Mark.TheVariants as m
 use Rattle.spd_syntax.specs.declared.token.TokenKind.{TokenKind}
 use Rattle.spd_syntax.specs.declared.token.TokenKind.TheVariants as kind
+use Rattle.spd_syntax.specs.declared.operators.TheConstants.{OPERATORS}
 use Rattle.spd_syntax.specs.declared.counts.NameRole.{NameRole}
 use Rattle.spd_syntax.specs.declared.counts.NameRole.TheVariants as role
 use Rattle.spd_syntax.specs.declared.counts.Counts.{Counts}
 use Rattle.spd_syntax.specs.declared.fault.ParseKind.{ParseKind}
 use Rattle.spd_syntax.specs.declared.fault.ParseKind.TheVariants.{Literal, TooDeep}
 use Rattle.spd_syntax.specs.Tokens.{Symbol, name, number, lit, word, mark, Seen}
-use Rattle.spd_syntax.specs.Symbols.{kind_of, is_great, is_in}
+use Rattle.spd_syntax.specs.Symbols.{kind_of, is_great, is_in, same_mark}
+use Rattle.spd_syntax.specs.Operators.{has_mark}
 
 -- the bytes of a program's text
 abbrev pub max_text : ℕ
@@ -66,22 +68,9 @@ Keeps limit n (t ∷ ts) = (broken limit n t.0 ≡ None) × Keeps limit (open_wi
 
 -- ---- what is counted
 
+-- An operator between two operands, or `!`. (`-` is both.)
 abbrev pub is_operator_mark : Mark → Bool
-is_operator_mark m.Equal = true
-is_operator_mark m.NotEqual = true
-is_operator_mark m.Less = true
-is_operator_mark m.LessEqual = true
-is_operator_mark m.Greater = true
-is_operator_mark m.GreaterEqual = true
-is_operator_mark m.Plus = true
-is_operator_mark m.Minus = true
-is_operator_mark m.Star = true
-is_operator_mark m.Slash = true
-is_operator_mark m.Percent = true
-is_operator_mark m.AndAnd = true
-is_operator_mark m.OrOr = true
-is_operator_mark m.Not = true
-is_operator_mark _ = false
+is_operator_mark which = same_mark m.Not which || has_mark which OPERATORS
 
 abbrev pub ends_stretch_mark : Mark → Bool
 ends_stretch_mark m.Semicolon = true
