@@ -25,15 +25,6 @@ fn kind_returns(what: &StmtKind) -> bool
     match what {
         StmtKind::Return { .. } => true,
         StmtKind::If { yes, no, .. } => block_returns(yes) && block_returns(no),
-        StmtKind::Let { .. }
-        | StmtKind::LetCall { .. }
-        | StmtKind::LetFinish { .. }
-        | StmtKind::Assign { .. }
-        | StmtKind::For { .. }
-        | StmtKind::Async { .. }
-        | StmtKind::Finish { .. }
-        | StmtKind::Offer { .. }
-        | StmtKind::Run { .. }
-        | StmtKind::Print { .. } => false,
+        _ => false,
     }
 }
