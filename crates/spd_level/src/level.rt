@@ -15,6 +15,9 @@ use spd_code::{CodeBlock, CodeItem, CodeTree};
 use spd_data::Data;
 use std::alloc::AllocError;
 
+/// The most single turns that one turn of a level takes before it is quiet.
+const QUIET_TURNS: u32 = 1024;
+
 /// Statements under way that offer to one finish.
 #[derive(Drop)]
 pub struct Level<'a> {
@@ -73,9 +76,24 @@ impl<'a> Level<'a> {
         })
     }
 
-    /// One turn: a statement, a turn of a loop, or a frame that is taken off. What was left of the
-    /// level is what the turn gives, and then what is left behind what it met.
+    /// Goes on until something is met, or for 1,024 single turns in which nothing was. What was left
+    /// of the level is what they give, and then what is left behind what was met.
     pub fn turn(&mut self, code: &'a CodeTree, columns: &Data) -> Result<Step<'a>, AllocError>
+        ensures { IfOk result (λ step. WholeTurn (context_of code.now columns.now) self.old self.new step) }
+    {
+        for _ in 1..QUIET_TURNS {
+            let step = self.single_turn(code, columns)?;
+            match step {
+                Step::Quiet => {}
+                step => return Ok(step),
+            }
+        }
+        let step = self.single_turn(code, columns)?;
+        Ok(step)
+    }
+
+    /// A single turn: a statement, a turn of a loop, or a frame that is taken off.
+    fn single_turn(&mut self, code: &'a CodeTree, columns: &Data) -> Result<Step<'a>, AllocError>
         ensures { IfOk result (λ step. WholeTurn (context_of code.now columns.now) self.old self.new step) }
     {
         match self.frames.pop() {
