@@ -85,6 +85,16 @@ abbrev pub HasOpenJob : Standing → Type 0
 HasOpenJob (standing.Waits line binds) = Unit {0}
 HasOpenJob _ = ⊥
 
+-- where a spine stands behind a turn: its job is open, or main has ended
+abbrev pub SpineStands : SpineTurn → Standing → Type 0
+SpineStands (turn.Region job) now = HasOpenJob now
+SpineStands _ now = now ≡ standing.Ended
+
+-- the same behind a step of main, which need be no whole turn
+abbrev pub WalkStands : Option SpineTurn → Standing → Type 0
+WalkStands None now = now ≡ standing.Runs
+WalkStands (Some by) now = SpineStands by now
+
 -- ---- turns
 
 -- Of the whole this is left, and the lines of all before it are put.

@@ -5,7 +5,7 @@ ghost use Rattle.spd_io.specs.Sink.{Failed, SameFaults};
 ghost use Rattle.spd_words.specs.Total.{ended};
 ghost use Rattle.spd_meaning.specs.Eval.{cut};
 ghost use Rattle.spd_level.specs.Columns.{context_of};
-ghost use Rattle.spd_spine.specs.Walk.{KeepsToMain, main_eval, spine_context, left_with, spine_left, size_with, spine_size, MayGoOn, HasOpenJob, SpineTurned};
+ghost use Rattle.spd_spine.specs.Walk.{KeepsToMain, main_eval, spine_context, left_with, spine_left, size_with, spine_size, MayGoOn, HasOpenJob, SpineStands, SpineTurned};
 ghost use Rattle.spd_spine.specs.declared.turn.SpineTurn.TheVariants as turn;
 
 use crate::turn::{RunError, SpineTurn};
@@ -71,12 +71,13 @@ impl<'a> Spine<'a> {
     /// Goes on through main to its next finish or call, which is the caller's to run, or to its end, and
     /// puts each print to `out` as it is reached. `Stopped` comes where the sink failed, with a first part
     /// of main's bytes put; `NoMemory` where memory ran out, with a first part of them put and the
-    /// sink's count as it was.
+    /// sink's count as it was. Behind all but a job main has ended.
     pub fn next<O: Sink>(&mut self, out: &mut O) -> SpineTurn<'a>
         requires main { KeepsToMain (spine_context self.old) }
         requires standing { MayGoOn self.old.standing }
         ensures context { spine_context self.new ≡ spine_context self.old }
         ensures turned { SpineTurned self.old self.new (O.state out.old) (O.state out.new) result }
+        ensures standing { SpineStands result self.new.standing }
         ensures cause { result ≡ turn.Stopped → Failed (O.state out.old) (O.state out.new) }
         ensures kept { result ≢ turn.Stopped → SameFaults (O.state out.old) (O.state out.new) }
     {

@@ -4,7 +4,7 @@ ghost use Rattle.std.specs.Prelude.{◌≡◌, ◌≢◌, ℤ, List, IfOk, OnErr
 ghost use Rattle.spd_io.specs.Sink.{GetsFront, Failed, SinkKeepsFaults, SameFaults};
 ghost use Rattle.spd_meaning.specs.Printed.{printed};
 ghost use Rattle.spd_level.specs.Left.{flow_end};
-ghost use Rattle.spd_spine.specs.Walk.{KeepsToMain, EndsSo, spine_context, spine_left, spine_size, MayGoOn, TurnsSo, WalksSo, EndTold};
+ghost use Rattle.spd_spine.specs.Walk.{KeepsToMain, EndsSo, spine_context, spine_left, spine_size, MayGoOn, SpineStands, WalkStands, TurnsSo, WalksSo, EndTold};
 ghost use Rattle.spd_spine.specs.declared.spine.Standing.TheVariants as standing;
 
 use crate::spine::{Spine, Standing};
@@ -24,6 +24,7 @@ pub(crate) fn go_on<'a, O: Sink>(
     requires standing { MayGoOn spine.old.standing }
     ensures context { spine_context spine.new ≡ spine_context spine.old }
     ensures turned { IfOk result (λ turn. TurnsSo spine.old spine.new (O.state out.old) (O.state out.new) turn) }
+    ensures standing { IfOk result (λ turn. SpineStands turn spine.new.standing) }
     ensures front { OnErr result (GetsFront (O.state out.old) (O.state out.new)
         (printed (spine_left spine.old).given)) }
     ensures cause { result ≡ Err RunError.WriteFailed → Failed (O.state out.old) (O.state out.new) }
@@ -59,6 +60,7 @@ fn walk<'a, O: Sink>(spine: &mut Spine<'a>, out: &mut O) -> Result<Option<SpineT
     requires standing { spine.old.standing ≡ standing.Runs }
     ensures context { spine_context spine.new ≡ spine_context spine.old }
     ensures turned { IfOk result (λ turn. WalksSo spine.old spine.new (O.state out.old) (O.state out.new) turn) }
+    ensures standing { IfOk result (λ turn. WalkStands turn spine.new.standing) }
     ensures front { OnErr result (GetsFront (O.state out.old) (O.state out.new)
         (printed (spine_left spine.old).given)) }
     ensures cause { result ≡ Err RunError.WriteFailed → Failed (O.state out.old) (O.state out.new) }
@@ -117,7 +119,8 @@ fn walk<'a, O: Sink>(spine: &mut Spine<'a>, out: &mut O) -> Result<Option<SpineT
 
 /// How main ended whose statements ended so.
 fn end_of_main<'a>(flow: &Flow) -> SpineTurn<'a>
-    ensures { (vars : List ℤ) → EndTold result (flow_end flow.now vars) }
+    ensures told { (vars : List ℤ) → EndTold result (flow_end flow.now vars) }
+    ensures standing { SpineStands result standing.Ended }
 {
     match flow {
         Flow::Fault(code) => SpineTurn::Fault(*code),

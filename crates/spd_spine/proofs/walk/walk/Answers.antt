@@ -94,6 +94,6 @@ returns-in-Over-clause-turned g c =
     let n : Spine = record { code = o.code; columns = o.columns; level = k; standing = standing.Ended } in
     let at = g.O.Sink.state c.args.out.now in
     let last = flow_end k.flow k.vars.items in
-    turn_ends o n at at c.end_of_main.result last (c.end_of_main.ensures k.vars.items)
+    turn_ends o n at at c.end_of_main.result last (c.end_of_main.ensures.told k.vars.items)
     (told_of_same (spine_left o) (level_eval x o.level) (quiet last) (quiet last) at at (left_runs o c.requires.standing) refl
     (over_met x o.level k at (rw c.in-Over.is at c.in_ok-turn.ensures)))
