@@ -5,7 +5,7 @@ ghost use Rattle.spd_region.specs.Dag.{MayRun};
 ghost use Rattle.spd_task.specs.Task.{task_view};
 
 use crate::events::Met::{self, Async, Fault, Finish, Offer, Over};
-use crate::events::events_of;
+use crate::events::{events_of, region_of};
 use crate::jobs::{
     Runs, async_through_tasks, call_in_finish, deep_asyncs, depth, depth_of_finishes, empty_main,
     fault_in_finish_in_async, finish_in_function_in_async, job_of, loop_of_asyncs,
@@ -16,7 +16,7 @@ use spd_data::Data;
 use spd_machine::{ElideRegions, Regions, elide_body};
 use spd_region::{Region, run_within};
 use spd_task::{PlainRegions, Task};
-use spd_words::{FinishKind, Given, NO_FAULT, Tally};
+use spd_words::{FinishKind, Given, NO_FAULT};
 use std::alloc::{AllocError, Global};
 use std::process::Abort;
 use std::test::Fail;
@@ -24,22 +24,6 @@ use std::test::Fail;
 /// What a region has.
 fn region(gift: i64, fault: u64, moves: u64) -> Region {
     let given = Given { gift, fault };
-    Region { given, moves }
-}
-
-/// What a finish of this kind has whose one vertex gave these events.
-fn region_of(kind: FinishKind, events: &[Met]) -> Region {
-    let mut tally = Tally::new(kind);
-    let mut moves: u64 = 1;
-    for event in events {
-        match event {
-            Met::Offer(value) => tally.offer(*value),
-            Met::Fault(code) => tally.fault(*code),
-            Met::Async | Met::Finish(_) => moves = moves.saturating_add(1),
-            Met::Over | Met::NoMemory => {}
-        }
-    }
-    let given = tally.given();
     Region { given, moves }
 }
 

@@ -1,6 +1,6 @@
 // Programs that begin with a finish: what they print, and how that finish runs.
 
-use crate::events::Met::{self, Async, Finish, Offer, Over};
+use spd_task_tests::Met::{self, Async, Finish, Offer, Over};
 use spd_words::FinishKind;
 
 /// A program that begins with a finish.

@@ -10,8 +10,6 @@ mod commands;
 #[cfg(test)]
 mod data_commands;
 #[cfg(test)]
-mod events;
-#[cfg(test)]
 mod families;
 #[cfg(test)]
 mod finish_rows;

@@ -4,14 +4,14 @@ ghost use Rattle.std.specs.Prelude.{◌<◌};
 ghost use Rattle.spd_region.specs.Dag.{MayRun};
 ghost use Rattle.spd_task.specs.Task.{task_view};
 
-use crate::events::{Met, events_of};
 use crate::jobs::first_job;
 use spd_check::Code;
 use spd_data::Data;
 use spd_machine::{ElideRegions, Regions, elide_body};
 use spd_region::{Region, run_within};
 use spd_task::{PlainRegions, Task};
-use spd_words::{FinishKind, Given, NO_FAULT, Tally};
+use spd_task_tests::{Met, events_of, region_of};
+use spd_words::{FinishKind, Given, NO_FAULT};
 use std::alloc::{AllocError, Global};
 use std::process::Abort;
 
@@ -19,22 +19,6 @@ use std::process::Abort;
 pub(crate) fn faultless(gift: i64, moves: u64) -> Region {
     let fault = NO_FAULT;
     let given = Given { gift, fault };
-    Region { given, moves }
-}
-
-/// What a finish of this kind has whose one vertex gave these events.
-fn region_of(kind: FinishKind, events: &[Met]) -> Region {
-    let mut tally = Tally::new(kind);
-    let mut moves: u64 = 1;
-    for event in events {
-        match event {
-            Met::Offer(value) => tally.offer(*value),
-            Met::Fault(code) => tally.fault(*code),
-            Met::Async | Met::Finish(_) => moves = moves.saturating_add(1),
-            Met::Over | Met::NoMemory => {}
-        }
-    }
-    let given = tally.given();
     Region { given, moves }
 }
 
