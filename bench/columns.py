@@ -1,29 +1,39 @@
 #!/usr/bin/env python3
-"""Measures how `spd` reads columns of a million rows, and adds one up, in one run on this machine, and prints ratios.
+"""Measures how `spd` reads columns of a million rows, and adds one up, in one run on this machine.
 
-Usage: bench/columns.py [PROGRAM], from the top of the repository, where PROGRAM is the built program
-(crates/spd/out/spd if left out).
+Usage: bench/columns.py [PROGRAM], where PROGRAM is the built program (crates/spd/out/spd if left out).
 
-Beside it stand CPython with its `csv`, a program in Rust over the `csv` crate (bench/by_hand.rs; Debian's
-librust-csv-dev and a `cargo`), and for the sums LuaJIT and mawk, which cut lines at commas and know no
-quotes. What isn't installed is left out. Times are processor time, so that other work on the machine counts
-in none: each is the median of ROUNDS runs, one of each program a round. Start-up is counted in.
+Beside it stand CPython with its `csv`, a program in Rust over the `csv` crate (bench/by_hand/columns.rs;
+Debian's librust-csv-dev and a `cargo`), and for the sums LuaJIT and mawk, which cut lines at commas and know
+no quotes. Times are processor time, so that other work on the machine counts in none: each is the median of
+ROUNDS runs, one of each program a round. Start-up is counted in.
 
 What it prints is a measurement of one run, and no promise.
 """
 
 import os
-import pathlib
 import shutil
-import subprocess
 import sys
-import tempfile
 
-from measuring import ended, medians, peak_kib, program_path, text_file
+from measuring import (
+    Row,
+    alone,
+    cargo_program,
+    elided,
+    medians,
+    must_print,
+    not_measured,
+    peak_kib,
+    text_file,
+    times,
+    working_folder,
+)
 
 ROWS = 1_000_000
 ROUNDS = 3
-DEBIAN_CRATES = "/usr/share/cargo/registry"
+
+# What each program wants that a machine may lack.
+WANTS = {"Rust's `csv` by hand": "cargo or librust-csv-dev", "LuaJIT": "luajit", "mawk": "mawk"}
 
 BY_CSV = "import csv\nrows = csv.reader(open('%s', newline=''))\nnext(rows)\nentries = [%s for row in rows]\n"
 BY_LINES = "entries = open('rows.txt', 'rb').read().split(b'\\n')[:-1]\n"
@@ -79,89 +89,72 @@ AWK = 'NR > 1 { s += $2 } END { printf "%d\\n", s }'
 
 
 def numbers():
-    """The rows: an identity, a price and a number for the name."""
+    """The rows of the files: an identity, a price and a number for the name."""
     return [(i, i * 7919 % 1000, i % 97) for i in range(ROWS)]
 
 
 def write_files():
     """The files that the columns are read from."""
-    rows = numbers()
-    text_file("rows.csv", b"id,price,name\n" + b"".join(b"%d,%d,item-%d\n" % row for row in rows))
-    text_file("quoted.csv", b"id,price,name\n" + b"".join(b'%d,%d,"item, ""%d"""\n' % row for row in rows))
-    text_file("rows.txt", b"".join(b"item-%d\n" % row[2] for row in rows))
+    entries = numbers()
+    text_file("rows.csv", b"id,price,name\n" + b"".join(b"%d,%d,item-%d\n" % row for row in entries))
+    text_file("quoted.csv", b"id,price,name\n" + b"".join(b'%d,%d,"item, ""%d"""\n' % row for row in entries))
+    text_file("rows.txt", b"".join(b"item-%d\n" % row[2] for row in entries))
 
 
-def rust_program(source):
-    """The program in Rust, built in the working folder, or None where what it wants isn't installed."""
-    if not shutil.which("cargo") or not os.path.isdir(DEBIAN_CRATES):
-        return None
-    for folder in ("rust/src", "rust/.cargo"):
-        os.makedirs(folder)
-    shutil.copy(source, "rust/src/main.rs")
-    text_file("rust/Cargo.toml", b'[package]\nname = "by_hand"\nversion = "0.1.0"\nedition = "2021"\n[dependencies]\ncsv = "1"\n')
-    text_file("rust/.cargo/config.toml", f'[source.crates-io]\nreplace-with = "debian"\n[source.debian]\ndirectory = "{DEBIAN_CRATES}"\n'.encode())
-    built = subprocess.run(["cargo", "build", "--release", "--offline"], cwd="rust", capture_output=True, check=False)
-    return os.path.abspath("rust/target/release/by_hand") if built.returncode == 0 else None
+def beside(what, commands):
+    """A row for each other command: the time of spd's, which is the first, by its own. One that is None isn't there."""
+    took = medians({name: command for name, command in commands.items() if command}, ROUNDS)
+    for name in list(commands)[1:]:
+        if name in took:
+            yield Row(what, times(took["spd"] / took[name]), name)
+        else:
+            yield not_measured(what, WANTS[name], name)
 
 
-def table(title, commands):
-    """Prints the times of commands, the first of which is spd's, and the ratio of spd's to each other's."""
-    times = medians(commands, ROUNDS)
-    of_spd = next(iter(times.values()))
-    beside = [f"{of_spd / time:.2f} times {name} ({time * 1000:.0f} ms)" for name, time in list(times.items())[1:]]
-    print(f"{title}: {of_spd * 1000:.0f} ms; {', '.join(beside)}")
-
-
-def read_columns(spd, rust):
-    """Prints the times and the memory of each kind of column."""
-    empty_kib = peak_kib([spd, "elide", text_file("empty.sp", b"main { }")])
+def column_rows(spd, rust):
+    """The times and the memory of each kind of column."""
+    empty_kib = peak_kib(elided(spd, "empty.sp", b"main { }"))
     for kind, (declaration, file, python, words) in KINDS.items():
         commands = {
-            "spd": [spd, "elide", text_file("column.sp", declaration + b"\nmain { }")],
-            "CPython's": [sys.executable, "-c", python],
-        } | ({"Rust's": [rust, *words]} if rust else {})
-        table(f"{kind}, {os.path.getsize(file) / 1e6:.0f} MB", commands)
-        per_row = {name: (peak_kib(command) - empty_kib) * 1024 / ROWS for name, command in commands.items()}
-        print("  bytes of memory a row at most: " + ", ".join(f"{name} {of:.0f}" for name, of in per_row.items())
-              + f"; {os.path.getsize(file) / ROWS:.0f} bytes of the file")
+            "spd": elided(spd, "column.sp", declaration + b"\nmain { }"),
+            "CPython": [sys.executable, "-c", python],
+            "Rust's `csv` by hand": [rust, *words] if rust else None,
+        }
+        yield from beside(f"reading {kind} of {ROWS:,} rows, {os.path.getsize(file) / 1e6:.0f} MB", commands)
+        if empty_kib is not None:
+            per_row = (peak_kib(commands["spd"]) - empty_kib) * 1024 / os.path.getsize(file)
+            yield Row(f"memory for {kind}", times(per_row), "the bytes of its file")
 
 
-def sum_columns(spd, rust):
-    """Prints the times of reading a column and adding it up, by a loop and by halves."""
+def sum_rows(spd, rust):
+    """The times of reading a column and adding it up, by a loop and by halves."""
     column, _, python, _ = KINDS["an int column"]
-    lua = shutil.which("luajit")
+    lua, awk, total = shutil.which("luajit"), shutil.which("mawk"), str(sum(row[1] for row in numbers()))
     for way, text, python_way, lua_way in (
         ("loop", BY_LOOP, PYTHON_LOOP, LUA_LOOP),
         ("halves", BY_HALVES, PYTHON_HALVES, LUA_HALVES),
     ):
         commands = {
-            "spd": [spd, "elide", text_file(f"{way}.sp", column + b"\n" + text)],
-            "CPython's": [sys.executable, "-c", python + python_way],
+            "spd": elided(spd, f"{way}.sp", column + b"\n" + text),
+            "CPython": [sys.executable, "-c", python + python_way],
+            "Rust's `csv` by hand": [rust, way, "rows.csv", "price"] if rust else None,
+            "LuaJIT": [lua, text_file(f"{way}.lua", (LUA % lua_way).encode())] if lua else None,
         }
-        if rust:
-            commands["Rust's"] = [rust, way, "rows.csv", "price"]
-        if lua:
-            commands["LuaJIT's"] = [lua, text_file(f"{way}.lua", (LUA % lua_way).encode())]
-        if way == "loop" and shutil.which("mawk"):
-            commands["mawk's"] = ["mawk", "-F,", AWK, "rows.csv"]
-        for command in commands.values():
-            done = ended(subprocess.run(command, stdout=subprocess.PIPE, check=False), 0)
-            if int(done.stdout) != sum(row[1] for row in numbers()):
-                raise SystemExit(f"{command}: {done.stdout} is another sum")
-        table(f"a sum by {way}", commands)
+        if way == "loop":
+            commands["mawk"] = [awk, "-F,", AWK, "rows.csv"] if awk else None
+        for command in filter(None, commands.values()):
+            must_print(command, total)
+        yield from beside(f"reading an int column and adding it up: {way}", commands)
 
 
-def main():
-    spd, source = program_path(), pathlib.Path(__file__).resolve().with_name("by_hand.rs")
-    print(f"load of the last minute: {os.getloadavg()[0]:.1f}, on {os.cpu_count()} processors")
-    with tempfile.TemporaryDirectory() as folder:
-        os.chdir(folder)
+def rows(spd):
+    """The rows of this measurement."""
+    with working_folder():
         write_files()
-        rust = rust_program(source)
-        read_columns(spd, rust)
-        sum_columns(spd, rust)
-        os.chdir("/")
+        rust = cargo_program("columns", "csv")
+        yield from column_rows(spd, rust)
+        yield from sum_rows(spd, rust)
 
 
 if __name__ == "__main__":
-    main()
+    alone(rows)

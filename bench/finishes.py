@@ -1,19 +1,18 @@
 #!/usr/bin/env python3
-"""Measures async and finish of `spd elide` in one run on this machine, and prints ratios.
+"""Measures asyncs and finishes that stand one by one in a text, by `spd elide`, in one run on this machine.
 
-Usage: bench/finishes.py [PROGRAM [OTHER]], from the top of the repository. PROGRAM is the built
-program (crates/spd/out/spd if left out), which runs each finish of main by its serial elision. OTHER
-is one to compare it with: built from a copy in which crates/spd_top/src/programs.rt names
-`PlainRegions` of `spd_task` in place of `ElideRegions`, so that each finish runs as vertices.
+Usage: bench/finishes.py [PROGRAM [OTHER]]. PROGRAM is the built program (crates/spd/out/spd if left out),
+which runs each finish of main by its serial elision. OTHER is one to compare it with: built from a copy in
+which crates/spd_top/src/programs.rt names `PlainRegions` of `spd_task` in place of `ElideRegions`, so that
+each finish runs as vertices. Times are of the processor.
 
 What it prints is a measurement of one run, and no promise.
 """
 
 import os
 import sys
-import tempfile
 
-from measuring import peak_kib, program_path, seconds, smallest_stack_kib, text_file
+from measuring import Row, alone, elided, medians, peak, smallest_stack_kib, times, working_folder
 
 ASYNCS = 50_000
 FINISHES = 40_000
@@ -34,33 +33,28 @@ def nest(braces):
     return b"main {" + b"finish {" * (braces - 1) + b"}" * braces + b"\n"
 
 
-def measure(way, spd):
-    """Prints the measurements of one build."""
-
-    def program(name, text):
-        return [spd, "elide", text_file(name, text)]
-
-    for what, count, text in (("async", ASYNCS, asyncs), ("finish", FINISHES, finishes)):
-        part = program("part.sp", text(count // 10))
-        whole = program("whole.sp", text(count))
-        before, now = seconds(part, 15), seconds(whole, 5)
-        size = os.path.getsize("whole.sp")
-        print(f"{way}: {count} times {what}, a text of {size} bytes: {now / count * 1e9:.0f} ns each, ", end="")
-        print(f"{now / before:.1f} times the time of {count // 10}; peak memory {peak_kib(whole)} KiB")
-    flat = smallest_stack_kib(program("flat.sp", nest(1)))
-    deep = smallest_stack_kib(program("deep.sp", nest(32)))
-    print(f"{way}: smallest stack {flat} KiB for 1 open brace, {deep} KiB for 32, the most that a text may have")
+def count_rows(spd, other):
+    """How the time and the memory grow with the count."""
+    for what, count, text in (("asyncs of a text in one finish", ASYNCS, asyncs), ("finishes of a text", FINISHES, finishes)):
+        runs = {"part": elided(spd, "part.sp", text(count // 10)), "whole": elided(spd, "whole.sp", text(count))}
+        if other:
+            runs["other"] = elided(other, "whole.sp", text(count))
+        took = medians(runs, 7)
+        name = f"{count:,} {what}"
+        yield Row(name, times(took["whole"] / took["part"]), f"{count // 10:,} of them")
+        if other:
+            yield Row(name, times(took["whole"] / took["other"]), f"the same by {os.path.basename(other)}")
+        yield Row(f"peak memory: {name}, {os.path.getsize('whole.sp'):,} bytes", peak(runs["whole"]))
 
 
-def main():
-    builds = [("vertices", program_path())]
-    if len(sys.argv) > 2:
-        builds.append(("elision", program_path(2)))
-    with tempfile.TemporaryDirectory() as folder:
-        os.chdir(folder)
-        for way, spd in builds:
-            measure(way, spd)
+def rows(spd, other=None):
+    """The rows of this measurement."""
+    with working_folder():
+        yield from count_rows(spd, other)
+        for what, braces in (("1 open brace", 1), ("32 open braces, the most", 32)):
+            kib = smallest_stack_kib(elided(spd, "nest.sp", nest(braces)))
+            yield Row(f"smallest stack: {what}", f"{kib} KiB")
 
 
 if __name__ == "__main__":
-    main()
+    alone(lambda spd: rows(spd, os.path.abspath(sys.argv[2]) if len(sys.argv) > 2 else None))

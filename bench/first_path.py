@@ -1,19 +1,18 @@
 #!/usr/bin/env python3
-"""Measures `spd elide` in one run on this machine, and prints ratios.
+"""Measures what `spd elide` takes to start, and to read and run a long text, in one run on this machine.
 
-Usage: bench/first_path.py [PROGRAM], from the top of the repository, where PROGRAM is the built
-program (crates/spd/out/spd if left out; the README says how it is built).
+Usage: bench/first_path.py [PROGRAM], where PROGRAM is the built program (crates/spd/out/spd if left
+out; the README says how it is built). Times are of the processor.
 
 What it prints is a measurement of one run, and no promise.
 """
 
-import os
 import sys
-import tempfile
 
-from measuring import peak_kib, program_path, seconds, smallest_stack_kib, text_file
+from measuring import Row, alone, elided, medians, peak, smallest_stack_kib, times, working_folder
 
 PRINT = b'print "row ", 1 + 2 + x;\n'
+SIZES = (("0.25 MB", 1 << 18), ("0.5 MB", 1 << 19), ("1 MB", 1 << 20))
 
 
 def prints(size):
@@ -22,36 +21,36 @@ def prints(size):
     return head + PRINT * ((size - len(head) - 2) // len(PRINT)) + b"}\n"
 
 
-def main():
-    spd = program_path()
-    with tempfile.TemporaryDirectory() as folder:
-        os.chdir(folder)
+def start_rows(empty):
+    """How long the program takes to start."""
+    others = {"/bin/true": ["/bin/true"], "`python3 -c ''`": [sys.executable, "-c", ""]}
+    took = medians({"spd": empty} | others, 31)
+    for other in others:
+        yield Row("start: `spd elide` on `main { }`", times(took["spd"] / took[other]), other)
 
-        def program(name, text):
-            return [spd, "elide", text_file(name, text)]
 
-        empty = program("empty.sp", b"main { }")
-        start = seconds(empty, 51)
-        true = seconds(["/bin/true"], 51)
-        python = seconds([sys.executable, "-c", ""], 21)
-        print(f"start-up of `spd elide` on `main {{ }}`: {start / true:.2f} times /bin/true, ", end="")
-        print(f"{start / python:.2f} times python3 -c ''")
+def size_rows(texts):
+    """How the time grows with the text."""
+    took = medians(texts, 7)
+    for (before, _), (name, _) in zip(SIZES, SIZES[1:]):
+        yield Row(f"{name} of prints", times(took[name] / took[before]), f"{before} of prints")
 
-        before = None
-        for name, size in (("0.25", 1 << 18), ("0.5", 1 << 19), ("1", 1 << 20)):
-            command = program(f"{name}.sp", prints(size))
-            now = seconds(command, 9)
-            line = f"{name} MB of prints: {now * 1000:.0f} ms"
-            print(line if before is None else f"{line}, {now / before:.2f} times the one before")
-            before = now
-        print(f"peak memory on `main {{ }}`: {peak_kib(empty)} KiB; on 1 MB of prints: {peak_kib(command)} KiB")
 
+def rows(spd):
+    """The rows of this measurement."""
+    with working_folder():
+        empty = elided(spd, "empty.sp", b"main { }")
+        yield from start_rows(empty)
+        texts = {name: elided(spd, f"prints_{size}.sp", prints(size)) for name, size in SIZES}
+        yield from size_rows(texts)
+        yield Row("peak memory: `main { }`", peak(empty))
+        yield Row("peak memory: 1 MB of prints", peak(texts["1 MB"]))
         # Reading is a loop. What recurs is a walk over an expression (the check of its names, its
         # value, its drop), once for each operator, and no tree has more than 1,000 in a row.
-        chain = program("chain.sp", b"main { print 1" + b" + 1" * 1000 + b"; }")
-        print(f"smallest stack: {smallest_stack_kib(empty)} KiB for `main {{ }}`, ", end="")
-        print(f"{smallest_stack_kib(chain)} KiB for a chain of 1,000 `+`")
+        chain = elided(spd, "chain.sp", b"main { print 1" + b" + 1" * 1000 + b"; }")
+        yield Row("smallest stack: `main { }`", f"{smallest_stack_kib(empty)} KiB")
+        yield Row("smallest stack: a chain of 1,000 `+`", f"{smallest_stack_kib(chain)} KiB")
 
 
 if __name__ == "__main__":
-    main()
+    alone(rows)

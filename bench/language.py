@@ -1,21 +1,18 @@
 #!/usr/bin/env python3
-"""Measures a loop, calls, asyncs and finishes of `spd elide` beside other languages, and prints ratios.
+"""Measures a loop, calls, asyncs and finishes of `spd elide` beside other languages, in one run on this machine.
 
-Usage: bench/language.py [PROGRAM], from the top of the repository, where PROGRAM is the built program
-(crates/spd/out/spd if left out). Beside it run those of lua5.4, luajit, perl (Debian's packages of
-these names) and this Python that the machine has. Times are of the processor, medians of rounds in
-which each language has one turn; from each the start of its program on nothing is taken off.
+Usage: bench/language.py [PROGRAM], where PROGRAM is the built program (crates/spd/out/spd if left out).
+Beside it run lua5.4, luajit and perl (Debian's packages of these names) and this Python. Times are of the
+processor, medians of rounds in which each language has one turn; from each the start of its program on
+nothing is taken off.
 
 What it prints is a measurement of one run, and no promise.
 """
 
-import os
 import shutil
-import statistics
 import sys
-import tempfile
 
-from measuring import peak_kib, processor_seconds, program_path, text_file
+from measuring import Row, alone, elided, medians, must_print, not_measured, peak_kib, text_file, times, working_folder
 
 ROUNDS = 5
 
@@ -26,13 +23,14 @@ ASYNCS = 200_000
 # What each language is called, how a file of it is run, and its program that does nothing.
 LANGUAGES = {
     "spd": ("sp", None, "main { }"),
-    "cpython": ("py", [sys.executable], ""),
-    "lua": ("lua", ["lua5.4"], ""),
-    "luajit": ("lua", ["luajit"], ""),
-    "perl": ("pl", ["perl"], ""),
+    "CPython": ("py", [sys.executable], ""),
+    "Lua": ("lua", ["lua5.4"], ""),
+    "LuaJIT": ("lua", ["luajit"], ""),
+    "Perl": ("pl", ["perl"], ""),
 }
 
-# What is measured: how often, what its result is, and it in each language.
+# What is measured: how often, what its result is, and it in each language. For an
+# async and a finish the others have what stands nearest: see BESIDE.
 CASES = {
     "turn of a loop": (
         TURNS,
@@ -59,13 +57,6 @@ CASES = {
             "pl": "use integer; sub f { my ($x) = @_; return $x + 1; }\n"
             "sub g { my ($n) = @_; my $s = 0; for my $i (0 .. $n - 1) { my $t = f($s); $s = $t; } return $s; }\n"
             "print g(N), \"\\n\";",
-        },
-    ),
-    "call of main": (
-        ASYNCS,
-        ASYNCS,
-        {
-            "sp": "fn f(x) { return x + 1; }\nmain { let s = 0; for i in 0..N { let t = f(s); s = t; } print s; }",
         },
     ),
     # An async stands beside a closure that is made and called, and that adds to a variable outside it.
@@ -98,6 +89,15 @@ CASES = {
     ),
 }
 
+# What stands beside an async and a finish in the other languages.
+BESIDE = {"async": ": a closure, made and called", "finish": ": a closure that gathers in a variable of its own"}
+
+# A call of main itself, and one in a function.
+CALL_TEXTS = {
+    "main_calls": "fn f(x) { return x + 1; }\nmain { let s = 0; for i in 0..N { let t = f(s); s = t; } print s; }",
+    "function_calls": CASES["call"][2]["sp"],
+}
+
 # Programs whose memory is not to grow with a number in them.
 STEADY = {
     "turns": (TURNS // 10, "main { let s = 0; for i in 0..N { s = s + i; } }"),
@@ -111,57 +111,61 @@ STEADY = {
 def command(spd, language, name, text):
     """How a program of a language is run, once it is a file of the working folder."""
     ending, runner, _ = LANGUAGES[language]
-    file = text_file(f"{name}.{ending}", text.encode())
-    return [spd, "elide", file] if runner is None else [*runner, file]
+    if runner is None:
+        return elided(spd, f"{name}.{ending}", text.encode())
+    return [*runner, text_file(f"{name}.{ending}", text.encode())]
 
 
-def printed(run):
-    """What a command prints."""
-    return os.popen(" ".join(run)).read().strip()
+def case_runs(spd, case, languages):
+    """The command of a case in each language that has it, once it is sure what each prints."""
+    turns, result, programs = CASES[case]
+    return {
+        one: must_print(command(spd, one, f"case_{one}", programs[LANGUAGES[one][0]].replace("N", str(turns))), str(result))
+        for one in languages
+    }
 
 
-def medians(runs, rounds):
-    """The median processor time of each of these commands, which take turns."""
-    times = {one: [] for one in runs}
-    for _ in range(rounds):
-        for one, run in runs.items():
-            times[one].append(processor_seconds(run))
-    return {one: statistics.median(found) for one, found in times.items()}
+def case_rows(spd, there, missing):
+    """The time of each case in spd by that in each other language."""
+    starts = medians({one: command(spd, one, f"nothing_{one}", LANGUAGES[one][2]) for one in there}, 4 * ROUNDS)
+    for case in CASES:
+        took = medians(case_runs(spd, case, there), ROUNDS)
+        net = {one: max(took[one] - starts[one], 0.0001) for one in there}
+        for one in there[1:]:
+            yield Row(case, times(net["spd"] / net[one]), one + BESIDE.get(case, ""))
+        for one in missing:
+            yield not_measured(case, LANGUAGES[one][1][0], one + BESIDE.get(case, ""))
 
 
-def measure(spd, languages):
-    """Prints the time of each case in each language, and the ratios of that of spd to the others."""
-    starts = medians({one: command(spd, one, "nothing", LANGUAGES[one][2]) for one in languages}, 4 * ROUNDS)
-    for case, (times, result, programs) in CASES.items():
-        runs = {}
-        for one in languages:
-            text = programs.get(LANGUAGES[one][0])
-            if text is None:
-                continue
-            runs[one] = command(spd, one, f"case_{one}", text.replace("N", str(times)))
-            if printed(runs[one]) != str(result):
-                raise SystemExit(f"{case} in {one}: {printed(runs[one])}, expected {result}")
-        took = {one: max(time - starts[one], 0.0001) for one, time in medians(runs, ROUNDS).items()}
-        told = ", ".join(f"{took['spd'] / took[one]:.2f} times {one}" for one in took if one != "spd")
-        print(f"{case}: {took['spd'] / times * 1e9:.0f} ns; {told}" if told else f"{case}: {took['spd'] / times * 1e9:.0f} ns")
+def call_of_main_row(spd):
+    """A call that main makes itself is a job of its own, and stands beside one in a function."""
+    main, function = (elided(spd, f"{name}.sp", text.replace("N", str(CALLS // 10)).encode()) for name, text in CALL_TEXTS.items())
+    start = elided(spd, "nothing.sp", b"main { }")
+    took = medians({"main": main, "function": function, "start": start}, ROUNDS)
+    ratio = (took["main"] - took["start"]) / max(took["function"] - took["start"], 0.0001)
+    return Row("call in main", times(ratio), "a call in a function")
 
 
-def hold(spd):
-    """Prints the peak memory at two sizes of what is not to need more."""
-    for what, (times, text) in STEADY.items():
-        peaks = [peak_kib(command(spd, "spd", "steady", text.replace("N", str(n)))) for n in (times // 10, times)]
-        print(f"peak memory: {peaks[0]} KiB for {times // 10} {what}, {peaks[1]} KiB for {times}")
+def steady_rows(spd):
+    """The peak memory at ten times the count, where it is not to grow."""
+    for what, (turns, text) in STEADY.items():
+        kib = [peak_kib(elided(spd, "steady.sp", text.replace("N", str(n)).encode())) for n in (turns // 10, turns)]
+        name = f"peak memory: {turns:,} {what}"
+        if kib[0] is None:
+            yield not_measured(name, "package `time`")
+        else:
+            yield Row(name, times(kib[1] / kib[0]), f"{turns // 10:,} of them, {kib[0]} KiB")
 
 
-def main():
-    spd = program_path()
-    languages = [one for one, (_, runner, _) in LANGUAGES.items() if runner is None or shutil.which(runner[0])]
-    print("load of the machine:", *(f"{load:.1f}" for load in os.getloadavg()))
-    with tempfile.TemporaryDirectory() as folder:
-        os.chdir(folder)
-        measure(spd, languages)
-        hold(spd)
+def rows(spd):
+    """The rows of this measurement."""
+    there = [one for one, (_, runner, _) in LANGUAGES.items() if runner is None or shutil.which(runner[0])]
+    missing = [one for one in LANGUAGES if one not in there]
+    with working_folder():
+        yield from case_rows(spd, there, missing)
+        yield call_of_main_row(spd)
+        yield from steady_rows(spd)
 
 
 if __name__ == "__main__":
-    main()
+    alone(rows)

@@ -1,25 +1,22 @@
 #!/usr/bin/env python3
-"""Measures how `spd` reads a text (tokens, tree and checks) in one run on this machine, and prints ratios.
+"""Measures how `spd` reads a text (tokens, tree and checks) in one run on this machine.
 
-Usage: bench/reading.py [PROGRAM], from the top of the repository, where PROGRAM is the built program
-(crates/spd/out/spd if left out).
+Usage: bench/reading.py [PROGRAM], where PROGRAM is the built program (crates/spd/out/spd if left out).
 
 Each text ends with a function that doesn't return, which is the last thing that the checks find, so
 that it is read to its end, checked and refused, and nothing of it runs. Beside it stands what
 CPython's `compile` takes for a text of the same kind and about the same length, its start-up not
-counted.
+counted. Times are of the processor.
 
 What it prints is a measurement of one run, and no promise.
 """
 
-import os
 import sys
-import tempfile
 
-from measuring import peak_kib, program_path, seconds, smallest_stack_kib, text_file
+from measuring import Row, alone, elided, medians, peak_kib, smallest_stack_kib, text_file, times, working_folder
 
 REFUSED = 1
-SIZES = (("0.25", 1 << 18), ("0.5", 1 << 19), ("1", 1 << 20))
+SIZES = (("0.5 MB", 1 << 19), ("1 MB", 1 << 20))
 END = b"}\nfn last() { }\n"
 SUM = b"1" + b" + 2" * 200
 
@@ -63,44 +60,34 @@ def python_text(kind, size):
     return line * (size // len(line))
 
 
-def reading(spd, name, text):
-    """The command that reads a text and refuses it."""
-    return [spd, "elide", text_file(name, text)]
-
-
 def compiling(name, text):
     """The command by which CPython compiles a text."""
     return [sys.executable, "-c", f"compile(open({text_file(name, text)!r}).read(), 'x', 'exec')"]
 
 
-def measure_kind(spd, kind, start, empty_kib):
-    """Prints the measurements of one kind of text."""
-    before = None
-    for name, size in SIZES:
-        text = spd_text(kind, size)
-        command = reading(spd, "text.sp", text)
-        now = seconds(command, 9, REFUSED)
-        grown = "" if before is None else f", {now / before:.2f} times the one before"
-        print(f"{name} MB of {kind}: {now * 1000:.0f} ms{grown}")
-        before = now
-    python = seconds(compiling("text.py", python_text(kind, SIZES[-1][1])), 5) - start
-    per_byte = (peak_kib(command, REFUSED) - empty_kib) * 1024 / len(text)
-    print(f"1 MB of {kind}: {now / python:.2f} times CPython's compile; {per_byte:.0f} bytes of memory a byte of text")
+def kind_rows(spd, kind, start, empty_kib):
+    """The measurements of one kind of text."""
+    half, whole = (elided(spd, f"{size}.sp", spd_text(kind, size)) for _, size in SIZES)
+    took = medians({"half": half, "whole": whole}, 5, status=REFUSED)
+    python = medians({"python": compiling("text.py", python_text(kind, SIZES[1][1]))}, 3)["python"] - start
+    yield Row(f"reading 1 MB of {kind}", times(took["whole"] / took["half"]), "0.5 MB of the same")
+    yield Row(f"reading 1 MB of {kind}", times(took["whole"] / python), "CPython's `compile`")
+    if empty_kib is not None:
+        per_byte = (peak_kib(whole, REFUSED) - empty_kib) * 1024 / SIZES[1][1]
+        yield Row(f"memory to read 1 MB of {kind}", f"{per_byte:.0f} bytes", "a byte of the text")
 
 
-def main():
-    spd = program_path()
-    with tempfile.TemporaryDirectory() as folder:
-        os.chdir(folder)
-        empty = reading(spd, "empty.sp", b"main {\n" + END)
-        start = seconds([sys.executable, "-c", ""], 21)
-        empty_kib = peak_kib(empty, REFUSED)
+def rows(spd):
+    """The rows of this measurement."""
+    with working_folder():
+        empty_kib = peak_kib(elided(spd, "empty.sp", b"main {\n" + END), REFUSED)
+        start = medians({"python": [sys.executable, "-c", ""]}, 21)["python"]
         for kind in KINDS:
-            measure_kind(spd, kind, start, empty_kib)
+            yield from kind_rows(spd, kind, start, empty_kib)
         for what, text in DEEP.items():
-            kib = smallest_stack_kib(reading(spd, "stack.sp", text), REFUSED)
-            print(f"smallest stack for {what}: {kib} KiB")
+            kib = smallest_stack_kib(elided(spd, "stack.sp", text), REFUSED)
+            yield Row(f"smallest stack to read: {what}", f"{kib} KiB")
 
 
 if __name__ == "__main__":
-    main()
+    alone(rows)

@@ -1,65 +1,69 @@
 #!/usr/bin/env python3
-"""Measures `spd run` beside `spd elide` in one run on this machine, and prints ratios.
+"""Measures `spd run` on 1, 2 and 4 workers beside `spd elide`, in one run on this machine.
 
-Usage: bench/workers.py [PROGRAM], from the top of the repository, where PROGRAM is the built program
-(crates/spd/out/spd if left out). Times are of the wall, medians of rounds in which each command has one
-turn; so nothing else should run on the machine. Each ratio is the time of a run by that of the elision.
+Usage: bench/workers.py [PROGRAM], where PROGRAM is the built program (crates/spd/out/spd if left out). Times
+are of the wall, medians of rounds in which each command has one turn; so nothing else should run on the
+machine. bench/dag.py has the dags on which other schedulers stand beside it.
 
 What it prints is a measurement of one run, and no promise.
 """
 
-import os
-import statistics
-import tempfile
-
-from measuring import peak_kib, program_path, seconds, text_file
+from measuring import Row, alone, medians, must_print, peak_kib, text_file, wall_seconds, with_workers, working_folder
 
 ROUNDS = 5
 WORKERS = (1, 2, 4)
-ROWS = 200_000
-REGIONS = 1_000
+ROWS = 1_000_000
 
-# Each program, by what it is.
-PROGRAMS = {
-    "start and one call": b"fn f(x) { return x; }\nmain { let x = f(1); print x; }\n",
-    "fib(20) by tasks": b"task fib(n) {\n  if n < 2 { offer n; } else { async { run fib(n - 1); } run fib(n - 2); }\n}\n"
-    b"main { let s = finish sum { run fib(20); } print s; }\n",
-    "sum of a column by halves": b'column p: int from "rows.csv" field "p";\n'
-    b"task add(low, high) {\n  if high - low <= 1000 {\n    let s = 0;\n    for i in low..high { s = s + p[i]; }\n    offer s;\n"
-    b"  } else {\n    let middle = (low + high) / 2;\n    async { run add(low, middle); }\n    run add(middle, high);\n  }\n}\n"
-    b"main { let s = finish sum { run add(0, len(p)); } print s; }\n",
-    f"{REGIONS} finishes of main": b"main { for i in 0..%d { finish { async { } } } }\n" % REGIONS,
+SUM = b"""column p: int from "rows.csv" field "p";
+task add(low, high) {
+  if high - low <= 1000 {
+    let s = 0;
+    for i in low..high { s = s + p[i]; }
+    offer s;
+  } else {
+    let middle = (low + high) / 2;
+    async { run add(low, middle); }
+    run add(middle, high);
+  }
 }
+main { let s = finish sum { run add(0, len(p)); } print s; }
+"""
 
 
-def rows(count):
-    """A CSV file with one column of so many numbers."""
-    return b"p\n" + b"".join(b"%d\n" % (i * 7919 % 1000) for i in range(count))
+def numbers():
+    """The column."""
+    return [i * 7919 % 1000 for i in range(ROWS)]
 
 
-def medians(commands):
-    """The median wall time of each command, in seconds, by its name."""
-    times = {name: [] for name in commands}
-    for _ in range(ROUNDS):
-        for name, command in commands.items():
-            times[name].append(seconds(command, 1))
-    return {name: statistics.median(of) for name, of in times.items()}
+def programs():
+    """Each program, by what it is, with what it prints."""
+    return {
+        "start and one call": (b"fn f(x) { return x; }\nmain { let x = f(1); print x; }\n", "1"),
+        f"reading a column of {ROWS:,} rows and its sum by halves": (SUM, str(sum(numbers()))),
+    }
 
 
-def main():
-    spd = program_path()
-    with tempfile.TemporaryDirectory() as folder:
-        os.chdir(folder)
-        text_file("rows.csv", rows(ROWS))
-        for what, text in PROGRAMS.items():
-            name = text_file("program.sp", text)
-            commands = {0: [spd, "elide", name]}
-            commands |= {n: [spd, "run", name, "--workers", str(n)] for n in WORKERS}
-            times = medians(commands)
-            ratios = ", ".join(f"{times[n] / times[0]:.2f} with {n}" for n in WORKERS)
-            peaks = ", ".join(f"{peak_kib(commands[n])} with {n}" for n in WORKERS)
-            print(f"{what}: time by that of the elision {ratios}; peak KiB {peak_kib(commands[0])} elided, {peaks}")
+def program_rows(spd, what, text, answer):
+    """The rows of one program."""
+    name = text_file("program.sp", text)
+    commands = {0: [spd, "elide", name]} | {n: [spd, "run", name, "--workers", str(n)] for n in WORKERS}
+    for command in commands.values():
+        must_print(command, answer)
+    took = medians(commands, ROUNDS, wall_seconds)
+    yield Row(f"{what}: `run`", with_workers({n: f"{took[n] / took[0]:.2f}" for n in WORKERS}), "`spd elide`")
+    kib = {n: peak_kib(command) for n, command in commands.items()}
+    if kib[0] is not None:
+        figures = with_workers({n: f"{kib[n] / kib[0]:.2f}" for n in WORKERS})
+        yield Row(f"{what}: memory of `run`", figures, f"`spd elide`, {kib[0]} KiB")
+
+
+def rows(spd):
+    """The rows of this measurement."""
+    with working_folder():
+        text_file("rows.csv", b"p\n" + b"".join(b"%d\n" % number for number in numbers()))
+        for what, (text, answer) in programs().items():
+            yield from program_rows(spd, what, text, answer)
 
 
 if __name__ == "__main__":
-    main()
+    alone(rows)
