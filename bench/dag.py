@@ -19,15 +19,16 @@ from measuring import (
     BY_HAND,
     Row,
     alone,
+    beyond,
     built,
     cargo_program,
     elided,
     medians,
     must_print,
     not_measured,
+    ratio,
     rust_program,
     text_file,
-    times,
     wall_seconds,
     with_workers,
     working_folder,
@@ -37,7 +38,6 @@ ROUNDS = 5
 WORKERS = (1, 2, 4)
 ASYNCS = 100_000
 FINISHES = 1_000
-LEAST = 1e-6
 COUNTER = "a counter and closures by hand on one thread"
 
 FIB = b"""task fib(n) {
@@ -69,9 +69,9 @@ class Dag(NamedTuple):
 
 
 DAGS = [
-    Dag("fib", 20, 5, 40, 6765, FIB, "fib(20) by tasks in one finish"),
-    Dag("finishes", FINISHES, 2, 100, FINISHES, MANY_FINISHES, f"{FINISHES:,} finishes of main, each with an async"),
-    Dag("asyncs", ASYNCS, 1, 5, ASYNCS * (ASYNCS - 1) // 2, MANY_ASYNCS, f"one finish with {ASYNCS:,} asyncs", 131_072),
+    Dag("fib", 20, 5, 100, 6765, FIB, "fib(20) by tasks in one finish"),
+    Dag("finishes", FINISHES, 2, 500, FINISHES, MANY_FINISHES, f"{FINISHES:,} finishes of main, each with an async"),
+    Dag("asyncs", ASYNCS, 1, 10, ASYNCS * (ASYNCS - 1) // 2, MANY_ASYNCS, f"one finish with {ASYNCS:,} asyncs", 131_072),
 ]
 
 
@@ -89,15 +89,15 @@ def others():
 
 
 def net_times(commands, gives):
-    """The median time of one of what each command does, by the command, the same on nothing, and how often."""
+    """The median time of one of what each command does, or none where that is too little to tell, by the command, the
+    same on nothing, and how often."""
     runs = {}
     for name, (done, nothing, often) in commands.items():
         runs[name, "done"] = must_print(done, str(often * gives))
         runs[name, "nothing"] = nothing
     took = medians(runs, ROUNDS, wall_seconds)
-    return {
-        name: max(took[name, "done"] - took[name, "nothing"], LEAST) / often for name, (_, _, often) in commands.items()
-    }
+    net = {name: beyond(took[name, "done"], took[name, "nothing"]) for name in commands}
+    return {name: net[name] and net[name] / often for name, (_, _, often) in commands.items()}
 
 
 def commands_of(spd, dag, there, counter):
@@ -126,8 +126,7 @@ def dag_rows(spd, dag, found, counter):
     what = f"{dag.name}: `run` by its workers"
 
     def by(other, threads=None):
-        ratios = {n: took["run", n] / took[other, n if threads is None else threads] for n in WORKERS}
-        return with_workers({n: f"{ratio:.2f}" for n, ratio in ratios.items()})
+        return with_workers({n: ratio(took["run", n], took[other, n if threads is None else threads]) for n in WORKERS})
 
     yield Row(what, by("elide", 0), "`spd elide`")
     for name, (_, wanted) in found.items():
@@ -135,7 +134,7 @@ def dag_rows(spd, dag, found, counter):
         yield Row(what, by(name), beside) if name in there else not_measured(what, wanted, beside)
     if counter:
         yield Row(what, by("counter", 1), COUNTER)
-        yield Row(f"{dag.name}: `elide`", times(took["elide", 0] / took["counter", 1]), COUNTER)
+        yield Row(f"{dag.name}: `elide`", ratio(took["elide", 0], took["counter", 1], " times"), COUNTER)
     else:
         yield not_measured(what, "rustc", COUNTER)
 

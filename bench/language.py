@@ -12,7 +12,20 @@ What it prints is a measurement of one run, and no promise.
 import shutil
 import sys
 
-from measuring import Row, alone, elided, medians, must_print, not_measured, peak_kib, text_file, times, working_folder
+from measuring import (
+    Row,
+    alone,
+    beyond,
+    elided,
+    medians,
+    must_print,
+    not_measured,
+    peak_kib,
+    ratio,
+    text_file,
+    times,
+    working_folder,
+)
 
 ROUNDS = 5
 
@@ -130,9 +143,9 @@ def case_rows(spd, there, missing):
     starts = medians({one: command(spd, one, f"nothing_{one}", LANGUAGES[one][2]) for one in there}, 4 * ROUNDS)
     for case in CASES:
         took = medians(case_runs(spd, case, there), ROUNDS)
-        net = {one: max(took[one] - starts[one], 0.0001) for one in there}
+        net = {one: beyond(took[one], starts[one]) for one in there}
         for one in there[1:]:
-            yield Row(case, times(net["spd"] / net[one]), one + BESIDE.get(case, ""))
+            yield Row(case, ratio(net["spd"], net[one], " times"), one + BESIDE.get(case, ""))
         for one in missing:
             yield not_measured(case, LANGUAGES[one][1][0], one + BESIDE.get(case, ""))
 
@@ -142,8 +155,8 @@ def call_of_main_row(spd):
     main, function = (elided(spd, f"{name}.sp", text.replace("N", str(CALLS // 10)).encode()) for name, text in CALL_TEXTS.items())
     start = elided(spd, "nothing.sp", b"main { }")
     took = medians({"main": main, "function": function, "start": start}, ROUNDS)
-    ratio = (took["main"] - took["start"]) / max(took["function"] - took["start"], 0.0001)
-    return Row("call in main", times(ratio), "a call in a function")
+    net = [beyond(took[name], took["start"]) for name in ("main", "function")]
+    return Row("call in main", ratio(*net, " times"), "a call in a function")
 
 
 def steady_rows(spd):

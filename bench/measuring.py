@@ -1,4 +1,4 @@
-"""What the measurements of this folder share: rows, commands with their times and instructions, and programs to compare with."""
+"""What the measurements of this folder share: rows, commands with their times and instructions, and programs by hand."""
 
 import contextlib
 import os
@@ -35,6 +35,16 @@ def times(ratio):
 def with_workers(figures):
     """The figures of a row, each with its number of workers."""
     return ", ".join(f"{figure} with {workers}" for workers, figure in figures.items())
+
+
+def beyond(took, start):
+    """What a command takes beyond its start, or none where that is too little to tell."""
+    return took - start if took > 1.1 * start else None
+
+
+def ratio(ours, theirs, unit=""):
+    """The ratio of what two commands take beyond their starts."""
+    return "too little to tell" if ours is None or theirs is None else f"{ours / theirs:.2f}{unit}"
 
 
 def not_measured(what, missing, beside=""):

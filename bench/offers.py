@@ -21,10 +21,12 @@ from measuring import (
     TOP,
     Row,
     alone,
+    beyond,
     instructions,
     medians,
     must_print,
     not_measured,
+    ratio,
     rust_program,
     text_file,
     times,
@@ -41,7 +43,6 @@ THREADS = (1, 4)
 ASYNCS = 4
 EACH = 250_000
 ADDS = 5_000_000
-LEAST = 1e-12
 ADD = "a bare `fetch_add`"
 
 OFFERS = b"main { let s = finish sum { for k in 0..%d { async { for i in 0..%d { offer i; } } } } print s; }\n"
@@ -93,11 +94,12 @@ def time_rows(spd, by_hand):
     took = medians(runs, ROUNDS)
     for threads in THREADS:
         what = f"an offer of a program on {threads} worker{'s' * (threads > 1)}"
-        offer = max(took["offers", threads] - took["loops", threads], LEAST) / total
-        yield Row(what, times(offer * total / max(took["loops", threads], LEAST)), "a turn of the loop round it")
+        offers_alone = beyond(took["offers", threads], took["loops", threads])
+        yield Row(what, ratio(offers_alone, took["loops", threads], " times"), "a turn of the loop round it")
         if by_hand:
-            add = max(took["adds", threads] - took["none", threads], LEAST) / ADDS
-            yield Row(what, times(offer / add), f"{ADD} to one word on as many threads")
+            adds_alone = beyond(took["adds", threads], took["none", threads])
+            figure = ratio(offers_alone and offers_alone / total, adds_alone and adds_alone / ADDS, " times")
+            yield Row(what, figure, f"{ADD} to one word on as many threads")
         else:
             yield not_measured(what, "rustc", ADD)
 

@@ -13,7 +13,19 @@ What it prints is a measurement of one run, and no promise.
 
 import sys
 
-from measuring import Row, alone, elided, medians, peak_kib, smallest_stack_kib, text_file, times, working_folder
+from measuring import (
+    Row,
+    alone,
+    beyond,
+    elided,
+    medians,
+    peak_kib,
+    ratio,
+    smallest_stack_kib,
+    text_file,
+    times,
+    working_folder,
+)
 
 REFUSED = 1
 SIZES = (("0.5 MB", 1 << 19), ("1 MB", 1 << 20))
@@ -69,9 +81,9 @@ def kind_rows(spd, kind, start, empty_kib):
     """The measurements of one kind of text."""
     half, whole = (elided(spd, f"{size}.sp", spd_text(kind, size)) for _, size in SIZES)
     took = medians({"half": half, "whole": whole}, 5, status=REFUSED)
-    python = medians({"python": compiling("text.py", python_text(kind, SIZES[1][1]))}, 3)["python"] - start
+    python = medians({"python": compiling("text.py", python_text(kind, SIZES[1][1]))}, 3)["python"]
     yield Row(f"reading 1 MB of {kind}", times(took["whole"] / took["half"]), "0.5 MB of the same")
-    yield Row(f"reading 1 MB of {kind}", times(took["whole"] / python), "CPython's `compile`")
+    yield Row(f"reading 1 MB of {kind}", ratio(took["whole"], beyond(python, start), " times"), "CPython's `compile`")
     if empty_kib is not None:
         per_byte = (peak_kib(whole, REFUSED) - empty_kib) * 1024 / SIZES[1][1]
         yield Row(f"memory to read 1 MB of {kind}", f"{per_byte:.0f} bytes", "a byte of the text")
