@@ -56,7 +56,7 @@ def inclusive(word):
         ["callgrind_annotate", "--inclusive=yes", "--threshold=100", "callgrind.out"],
         stdout=subprocess.PIPE, stderr=subprocess.DEVNULL, text=True, check=False,
     ).stdout.splitlines()
-    found = [line for line in lines if re.search(rf"\b{word}::", line.split("[")[0])]
+    found = [line for line in lines if re.search(rf"\b{word}\b", line.split("[")[0])]
     return max((int(line.split("(")[0].replace(",", "")) for line in found), default=None)
 
 
