@@ -3,7 +3,8 @@
 
 It refuses: a name that is defined in the specs of two crates, or in two files of one crate's; a clause
 of more than 120 columns; a source file, a file of definitions or a file of lemmas that doesn't open
-with a comment on what it is; and a crate with lemmas whose proofs/Lib.antt doesn't open with a map.
+with a comment on what it is; a crate with lemmas whose proofs/Lib.antt doesn't open with a map; and a
+crate that no table of the README or of docs/architecture.md has a row for.
 """
 
 import collections
@@ -15,6 +16,7 @@ CRATES = pathlib.Path("crates")
 WIDEST_CLAUSE = 120
 SHORTEST_MAP = 3
 DEFINITION = re.compile(r"\s*(?:abbrev pub|unfoldable pub|pub record|pub data) ([^\s:({]+)")
+TABLES = (pathlib.Path("README.md"), pathlib.Path("docs/architecture.md"))
 CLAUSE = re.compile(r"\s*(?:requires|ensures)\b")
 
 
@@ -80,8 +82,24 @@ def missing_maps():
     return faults
 
 
+def in_tables(path):
+    """The names in the first cells of a document's tables."""
+    cells = (line.split("|")[1] for line in path.read_text().splitlines() if line.startswith("| `"))
+    return {name for cell in cells for name in re.findall(r"`([^`]+)`", cell)}
+
+
+def crates_without_rows():
+    """A fault for each crate that a table leaves out."""
+    return [
+        f"{path}: no table has a row for {crate.name}"
+        for path in TABLES
+        for crate in sorted(CRATES.iterdir())
+        if crate.name not in in_tables(path)
+    ]
+
+
 def main():
-    faults = clashes() + wide_clauses() + headless_files() + missing_maps()
+    faults = clashes() + wide_clauses() + headless_files() + missing_maps() + crates_without_rows()
     for fault in faults:
         print(fault)
     if faults:
