@@ -1,4 +1,4 @@
--- Quiet turns, and then any turn, are one turn.
+-- What is quiet, and then a turn, is one turn.
 use Rattle.std.proofs.Common.{◌≡◌, ℕ, ◌+◌, ◌*◌, ◌≤◌, [], ◌++◌, length, refl, ◌∙◌, ap, arith, ℤ}
 use Rattle.std.proofs.lemmas.Grind.{flat_map-append}
 use Rattle.spd_meaning.specs.Acts.{Acts, work_of, said, said_in}
@@ -12,12 +12,12 @@ use Rattle.spd_level.specs.declared.level.Level.{Level}
 use Rattle.spd_level.specs.declared.step.Step.{Step}
 use Rattle.spd_level.specs.declared.step.Step.TheVariants as step
 
--- From this evaluation and so many frames a level came to this state by turns, perhaps by none, that said nothing and met nothing.
-pub record QuietTurns (context : Context) (a : Eval ℤ) (n : ℕ) (new : Level) : Type 0 where
+-- From the evaluation a and n frames to the evaluation b and k frames nothing was said and nothing met, by turns or parts of one, perhaps by none.
+pub record Quietly (a : Eval ℤ) (n : ℕ) (b : Eval ℤ) (k : ℕ) : Type 0 where
   pub given : Acts
-  pub is : a ≡ before given (level_eval context new)
+  pub is : a ≡ before given b
   pub silent : said given ≡ []
-  pub frames : length new.frames.items ≤ 4 * work_of given + n
+  pub frames : k ≤ 4 * work_of given + n
 
 said_both : (p q : Acts) → said p ≡ [] → said (p ++ q) ≡ said q
 said_both p q s = flat_map-append said_in p q ∙ ap (λ (z : Acts). z ++ said q) s
@@ -35,14 +35,24 @@ pays_further context (step.Call c) v w n k new e h = omega arith
 pays_further context step.Called v w n k new e h = omega arith
 pays_further context step.Over v w n k new e h = h
 
-module _ (context : Context) where
-  pub no_turn : (l : Level) → QuietTurns context (level_eval context l) (length l.frames.items) l
-  unfolding work_of
-  no_turn l = record { given = []; is = refl; silent = refl; frames = omega arith }
+pub quietly_none : (a : Eval ℤ) (n : ℕ) → Quietly a n a n
+unfolding work_of
+quietly_none a n = record { given = []; is = refl; silent = refl; frames = omega arith }
 
-  pub turn_further : (a : Eval ℤ) (n : ℕ) (m new : Level) (s : Step) → QuietTurns context a n m →
-      LevelTurn context (level_eval context m) (length m.frames.items) new s → LevelTurn context a n new s
-  turn_further a n m new s q h =
+pub quietly_more : (a b d : Eval ℤ) (n k j : ℕ) (p : Acts) → Quietly a n b k → b ≡ before p d → said p ≡ [] → j ≤ 4 * work_of p + k → Quietly a n d j
+quietly_more a b d n k j p q e s f =
+    let w = work_both q.given p in
+    let g = q.frames in
+    record {
+      given = q.given ++ p;
+      is = q.is ∙ ap (before q.given) e ∙ before_both q.given p d;
+      silent = said_both q.given p q.silent ∙ s;
+      frames = omega arith;
+    }
+
+module _ (context : Context) where
+  pub turn_further : (a b : Eval ℤ) (n k : ℕ) (new : Level) (s : Step) → Quietly a n b k → LevelTurn context b k new s → LevelTurn context a n new s
+  turn_further a b n k new s q h =
       let w = work_both q.given h.given in
       let f = q.frames in
       record {
@@ -51,12 +61,11 @@ module _ (context : Context) where
         said = said_both q.given h.given q.silent ∙ h.said;
         falls_through = h.falls_through;
         callee = h.callee;
-        goes_on = pays_further context s (work_of h.given) (work_of (q.given ++ h.given)) n (length m.frames.items) new (omega arith) h.goes_on;
+        goes_on = pays_further context s (work_of h.given) (work_of (q.given ++ h.given)) n k new (omega arith) h.goes_on;
       }
 
-  pub quiet_further : (a : Eval ℤ) (n : ℕ) (m new : Level) → QuietTurns context a n m →
-      LevelTurn context (level_eval context m) (length m.frames.items) new step.Quiet → QuietTurns context a n new
-  quiet_further a n m new q h =
-      let t = turn_further a n m new step.Quiet q h in
-      let f = t.goes_on in
-      record { given = t.given; is = t.is; silent = t.said; frames = omega arith }
+  pub quiet_further : (a b : Eval ℤ) (n k : ℕ) (new : Level) → Quietly a n b k → LevelTurn context b k new step.Quiet →
+      Quietly a n (level_eval context new) (length new.frames.items)
+  quiet_further a b n k new q h =
+      let f = h.goes_on in
+      quietly_more a b (level_eval context new) n k (length new.frames.items) h.given q h.is h.said (omega arith)

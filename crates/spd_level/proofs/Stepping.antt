@@ -8,12 +8,13 @@ use Rattle.spd_meaning.specs.Acts.{Offer, Line, Call, Begin, Over, Tick, work_of
 use Rattle.spd_meaning.specs.Eval.{Fell, Fault, Eval, quiet, before, counted, with_values, cut, call_of}
 use Rattle.spd_code.specs.Coded.{Context, run_code, no_item, item_at, around_of, eval_stmt}
 use Rattle.spd_code.specs.Places.{bind_if}
-use Rattle.spd_level.specs.Turn.{AreCalled, IsCallee, KnowsCallee, says, LevelTurn, StatementDone, behind_step, StepFalls, StepPays}
+use Rattle.spd_level.specs.Turn.{AreCalled, IsCallee, KnowsCallee, says, LevelTurn, PlainTurn, StatementDone, behind_step, StepFalls, StepPays}
 use Rattle.spd_level.specs.Left.{called_in, frame_left, level_left, level_eval, level_now}
 use Rattle.spd_meaning.specs.Values.{too_deep}
 use Rattle.spd_level.proofs.Through.{frames_before, popped}
 use Rattle.spd_level.proofs.Called.{none_called}
-use Rattle.spd_level.proofs.Turns.{none_at, drop_none, quiet_turn, block_steps, for_turns, for_ends}
+use Rattle.spd_level.proofs.Quiet.{Quietly, quietly_none, quietly_more, turn_further}
+use Rattle.spd_level.proofs.Turns.{none_at, drop_none, quiet_turn, block_steps, block_left, plain_goes, for_turns, for_ends}
 use Rattle.spd_level.specs.declared.step.Step.{Step}
 use Rattle.spd_level.specs.declared.step.Step.TheVariants as step
 use Rattle.spd_level.specs.declared.frame.Frame.{Frame}
@@ -120,6 +121,30 @@ module _ (context : Context) where
       (drop_none (eval_stmt (around_of context left)) (out-CodeBlock block.now).stmts next (none_at (out-CodeBlock block.now).stmts next e)))) refl
       (omega arith)
 
+  -- a block between two of its statements, of which those before needed nothing but the values
+  abbrev pub BlockRuns : Level → Level → CodeBlock → ℕ → ℕ → ℕ → ℕ → Type 0
+  BlockRuns l m b next at floor left =
+      Quietly (level_left context l (block_left context left b next floor (level_now l))) (length l.frames.items + 1)
+      (level_left context m (block_left context left b at floor (level_now m))) (length m.frames.items + 1)
+
+  pub plain_ran : (l m n : Level) (b : CodeBlock) (next at floor left : ℕ) (s : CodeStmt) → BlockRuns l m b next at floor left → m.flow ≡ flow.Fell →
+      slice_get (out-CodeBlock b).stmts at ≡ Some s → PlainTurn m n true (eval_stmt (around_of context left) s m.vars.items) →
+      BlockRuns l n b next (at + 1) floor left
+  unfolding work_of
+  plain_ran l m n b next at floor left s runs f e plain =
+      let k : length n.frames.items ≡ length m.frames.items = ap length plain.0 in
+      quietly_more _ _ _ (length l.frames.items + 1) (length m.frames.items + 1) (length n.frames.items + 1) (Tick ∷ []) runs
+      (plain_goes context m n b at floor left s f e plain.0 plain.1) refl (omega arith)
+
+  -- a block that is over, since what ran in it has ended otherwise than by falling through
+  pub block_over : (l m : Level) (b : CodeBlock) (next at floor left : ℕ) → BlockRuns l m b next at floor left →
+      block_left context left b at floor (level_now m) ≡ level_now m →
+      LevelTurn context (level_left context l (block_left context left b next floor (level_now l))) (length l.frames.items + 1) m step.Quiet
+  unfolding work_of
+  block_over l m b next at floor left runs e =
+      turn_further context _ _ (length l.frames.items + 1) (length m.frames.items + 1) m step.Quiet runs
+      (quiet_turn context _ (length m.frames.items + 1) m [] (ap (level_left context m) e) refl (omega arith))
+
   -- a statement of a block, as a turn
   pub block_turned : (l m new : Level) (block : Bor CodeBlock) (next floor left : ℕ) (s : CodeStmt) (t : Step) → l.flow ≡ flow.Fell →
       slice_get (out-CodeBlock block.now).stmts next ≡ Some s →
@@ -187,20 +212,18 @@ module _ (context : Context) where
 
   -- ---- loops, as turns
 
-  pub for_turned : (l n : Level) (body : Bor CodeBlock) (at end : ℤ) (left : ℕ) → l.flow ≡ flow.Fell → n.flow ≡ flow.Fell → at <ℤ end →
-      n.frames.items ≡ (l.frames.items ++ frame.For body (at +ℤ pos 1) end left ∷ []) ++ frame.Block body 0 (length l.vars.items) left ∷ [] →
-      n.vars.items ≡ l.vars.items ++ at ∷ [] →
-      LevelTurn context (level_left context l (frame_left context (frame.For body at end left) (level_now l))) (length l.frames.items + 1) n step.Quiet
+  pub for_turned : (l n new : Level) (body : Bor CodeBlock) (at end : ℤ) (left : ℕ) (t : Step) → l.flow ≡ flow.Fell → n.flow ≡ flow.Fell → at <ℤ end →
+      n.frames.items ≡ l.frames.items ++ frame.For body (at +ℤ pos 1) end left ∷ [] → n.vars.items ≡ l.vars.items ++ at ∷ [] →
+      LevelTurn context (level_left context n (frame_left context (frame.Block body 0 (length l.vars.items) left) (level_now n)))
+      (length n.frames.items + 1) new t →
+      LevelTurn context (level_left context l (frame_left context (frame.For body at end left) (level_now l))) (length l.frames.items + 1) new t
   unfolding work_of
-  for_turned l n body at end left f g h fs vs =
-      let k : length n.frames.items ≡ length l.frames.items + 2 =
-      ap length fs ∙ omega (
-        arith,
-        length-append (l.frames.items ++ frame.For body (at +ℤ pos 1) end left ∷ [])
-            (frame.Block body 0 (length l.vars.items) left ∷ []),
-        length-append l.frames.items (frame.For body (at +ℤ pos 1) end left ∷ []),
-      ) in
-      quiet_turn context _ (length l.frames.items + 1) n (Tick ∷ []) (for_turns context l n body at end left f g h fs vs) refl (omega arith)
+  for_turned l n new body at end left t f g h fs vs turned =
+      let a = level_left context l (frame_left context (frame.For body at end left) (level_now l)) in
+      let k : length n.frames.items ≡ length l.frames.items + 1 = ap length fs ∙ length-append l.frames.items (frame.For body (at +ℤ pos 1) end left ∷ []) in
+      turn_further context a _ (length l.frames.items + 1) (length n.frames.items + 1) new t
+      (quietly_more a a _ (length l.frames.items + 1) (length l.frames.items + 1) (length n.frames.items + 1) (Tick ∷ [])
+      (quietly_none a (length l.frames.items + 1)) (for_turns context l n body at end left f g h fs vs) refl (omega arith)) turned
 
   pub for_ended : (l : Level) (body : Bor CodeBlock) (at end : ℤ) (left : ℕ) → l.flow ≡ flow.Fell → end ≤ℤ at →
       LevelTurn context (level_left context l (frame_left context (frame.For body at end left) (level_now l))) (length l.frames.items + 1) l step.Quiet

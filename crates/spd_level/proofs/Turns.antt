@@ -106,6 +106,23 @@ module _ (context : Context) where
       rw (f, fs, frames-snoc context l.frames.items (frame.Block block (next + 1) floor left) (eval_stmt (around_of context left) s l.vars.items))
       (ap (λ (a : Eval ℤ). level_left context l (cut floor a)) (rest_step left block.now next s l.vars.items e))
 
+  -- what a block makes of what ended before one of its statements
+  abbrev pub block_left : ℕ → CodeBlock → ℕ → ℕ → Eval ℤ → Eval ℤ
+  block_left left b next floor a = cut floor (then_do a (block_rest context left b next))
+
+  -- a statement of a block that needs no frame and says nothing
+  pub plain_goes : (l m : Level) (b : CodeBlock) (next floor left : ℕ) (s : CodeStmt) → l.flow ≡ flow.Fell →
+      slice_get (out-CodeBlock b).stmts next ≡ Some s → m.frames.items ≡ l.frames.items →
+      eval_stmt (around_of context left) s l.vars.items ≡ counted (level_now m) →
+      level_left context l (block_left left b next floor (level_now l))
+      ≡ before (Tick ∷ []) (level_left context m (block_left left b (next + 1) floor (level_now m)))
+  plain_goes l m b next floor left s f e fs is =
+      rw (f, fs)
+      (ap (λ (a : Eval ℤ). level_left context l (cut floor a)) (rest_step left b next s l.vars.items e)
+      ∙ ap (λ (a : Eval ℤ). level_left context l (block_left left b (next + 1) floor a)) is
+      ∙ ap (λ (a : Eval ℤ). level_left context l (cut floor a)) (then_before (Tick ∷ []) (level_now m) (block_rest context left b (next + 1)))
+      ∙ frames_before context l.frames.items (Tick ∷ []) (block_left left b (next + 1) floor (level_now m)))
+
   -- a block that begins
   pub entered : (left : ℕ) (b : Bor CodeBlock) (floor : ℕ) (vars : List ℤ) →
       cut floor (eval_block (around_of context left) b.now vars) ≡ frame_left context (frame.Block b 0 floor left) (quiet (Fell vars))
@@ -138,22 +155,14 @@ module _ (context : Context) where
       (loop_rest context left body.now (at +ℤ pos 1) end)
 
   pub for_turns : (l n : Level) (body : Bor CodeBlock) (at end : ℤ) (left : ℕ) → l.flow ≡ flow.Fell → n.flow ≡ flow.Fell → at <ℤ end →
-      n.frames.items ≡ (l.frames.items ++ frame.For body (at +ℤ pos 1) end left ∷ []) ++ frame.Block body 0 (length l.vars.items) left ∷ [] →
-      n.vars.items ≡ l.vars.items ++ at ∷ [] →
-      level_left context l (frame_left context (frame.For body at end left) (level_now l)) ≡ before (Tick ∷ []) (level_eval context n)
+      n.frames.items ≡ l.frames.items ++ frame.For body (at +ℤ pos 1) end left ∷ [] → n.vars.items ≡ l.vars.items ++ at ∷ [] →
+      level_left context l (frame_left context (frame.For body at end left) (level_now l))
+      ≡ before (Tick ∷ []) (level_left context n (frame_left context (frame.Block body 0 (length l.vars.items) left) (level_now n)))
   for_turns l n body at end left f g h fs vs =
-      let inner = quiet (Fell (l.vars.items ++ at ∷ [])) in
-      rw (
-        f,
-        g,
-        fs,
-        vs,
-        frames-snoc context (l.frames.items ++ frame.For body (at +ℤ pos 1) end left ∷ []) (frame.Block body 0 (length l.vars.items) left) inner,
-        frames-snoc context l.frames.items (frame.For body (at +ℤ pos 1) end left) (frame_left context (frame.Block body 0 (length l.vars.items) left) inner),
-      )
+      let first = frame_left context (frame.Block body 0 (length l.vars.items) left) (quiet (Fell (l.vars.items ++ at ∷ []))) in
+      rw (f, g, fs, vs, frames-snoc context l.frames.items (frame.For body (at +ℤ pos 1) end left) first)
       (ap (level_left context l) (loop_turns body at end left l.vars.items h)
-      ∙ frames_before context l.frames.items (Tick ∷ []) (frame_left context (frame.For body (at +ℤ pos 1) end left)
-      (frame_left context (frame.Block body 0 (length l.vars.items) left) inner)))
+      ∙ frames_before context l.frames.items (Tick ∷ []) (frame_left context (frame.For body (at +ℤ pos 1) end left) first))
 
   -- the end of a loop
   pub for_ends : (l : Level) (body : Bor CodeBlock) (at end : ℤ) (left : ℕ) → l.flow ≡ flow.Fell → end ≤ℤ at →

@@ -3,7 +3,7 @@ use Rattle.std.specs.Prelude.{◌≡◌, Bool, true, false, ℕ, ◌+◌, ◌*�
 use Rattle.spd_code.specs.declared.tree.CodeItem.{CodeItem}
 use Rattle.spd_code.specs.declared.tree.CodeTree.{CodeTree}
 use Rattle.spd_meaning.specs.Acts.{Acts, Offer, Code, Line, Begin, Call, Over, work_of, said}
-use Rattle.spd_meaning.specs.Eval.{Eval, before, async_of, finish_of, call_of}
+use Rattle.spd_meaning.specs.Eval.{Eval, before, counted, async_of, finish_of, call_of}
 use Rattle.spd_code.specs.Coded.{Context, item_returned, item_at, around_of, eval_block}
 use Rattle.spd_code.specs.Places.{bind_if}
 use Rattle.spd_level.specs.Left.{level_now, frame_left, level_left, level_eval}
@@ -95,6 +95,11 @@ GoesInto context old new a = level_left context old a ≡ level_eval context new
 -- A level ran a statement that needs no frame: what it evaluates to is what the step says and what runs now.
 abbrev pub StatementDone : Level → Level → Step → Eval ℤ → Type 0
 StatementDone old new by a = (new.frames.items ≡ old.frames.items) × (a ≡ before (says by) (level_now new)) × MeetsNothing by
+
+-- A level ran a statement that needs no frame and says nothing, or left everything as it was.
+abbrev pub PlainTurn : Level → Level → Bool → Eval ℤ → Type 0
+PlainTurn old new true a = (new.frames.items ≡ old.frames.items) × (a ≡ counted (level_now new))
+PlainTurn old new false a = new ≡ old
 
 -- the items that are called
 abbrev pub AreCalled : Bool → List CodeItem → CodeTree → Type 0

@@ -19,7 +19,7 @@ use crate::frame::{Flow, Frame};
 use crate::level::Level;
 use crate::step::Step;
 use crate::value::value_of;
-use spd_code::{CodeBlock, CodeExpr};
+use spd_code::{CodeBlock, CodeExpr, CodeTree};
 use spd_data::Data;
 use spd_words::{Given, NO_FAULT};
 use std::alloc::AllocError;
@@ -112,20 +112,22 @@ impl<'a> Level<'a> {
         }
     }
 
-    /// The next turn of a loop, or its end.
+    /// The next turn of a loop, as far as its body goes on by itself, or its end.
     pub(crate) fn turn_of(
         &mut self,
+        code: &'a CodeTree,
+        columns: &Data,
         body: &'a CodeBlock,
         at: i64,
         end: i64,
         left: u32,
-    ) -> Result<(), AllocError>
+    ) -> Result<Step<'a>, AllocError>
         requires { self.old.flow ≡ flow.Fell }
-        ensures { (context : Context) → IfOk result (λ _.
-            FrameTurn context (frame.For body.entry at end left) self.old self.new step.Quiet) }
+        ensures { IfOk result (λ step.
+            FrameTurn (context_of code.now columns.now) (frame.For body.entry at end left) self.old self.new step) }
     {
         if at >= end {
-            return Ok(());
+            return Ok(Step::Quiet);
         }
         let floor = self.vars.len();
         self.frames.push(Frame::For {
@@ -135,13 +137,8 @@ impl<'a> Level<'a> {
             left,
         })?;
         self.vars.push(at)?;
-        self.frames.push(Frame::Block {
-            block: body,
-            next: 0,
-            floor,
-            left,
-        })?;
-        Ok(())
+        let step = self.go_on(code, columns, body, 0, floor, left)?;
+        Ok(step)
     }
 
     /// Runs an async that was met where it stands, over a copy of the values.

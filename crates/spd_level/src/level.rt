@@ -92,7 +92,8 @@ impl<'a> Level<'a> {
         Ok(step)
     }
 
-    /// A single turn: a statement, a turn of a loop, or a frame that is taken off.
+    /// A single turn: statements of a block, a turn of a loop with the first of its body's, or a frame
+    /// that is taken off.
     fn single_turn(&mut self, code: &'a CodeTree, columns: &Data) -> Result<Step<'a>, AllocError>
         ensures { IfOk result (λ step. WholeTurn (context_of code.now columns.now) self.old self.new step) }
     {
@@ -107,7 +108,7 @@ impl<'a> Level<'a> {
                 },
             ) => match self.flow {
                 Flow::Fell => {
-                    let step = self.next_of(code, columns, block, next, floor, left)?;
+                    let step = self.go_on(code, columns, block, next, floor, left)?;
                     Ok(step)
                 }
                 Flow::Back(_) => Ok(Step::Quiet),
@@ -122,8 +123,8 @@ impl<'a> Level<'a> {
                 },
             ) => match self.flow {
                 Flow::Fell => {
-                    self.turn_of(body, at, end, left)?;
-                    Ok(Step::Quiet)
+                    let step = self.turn_of(code, columns, body, at, end, left)?;
+                    Ok(step)
                 }
                 Flow::Back(_) => Ok(Step::Quiet),
                 Flow::Fault(_) => Ok(Step::Quiet),
@@ -137,8 +138,9 @@ impl<'a> Level<'a> {
         }
     }
 
-    /// The next statement of a block, or its end.
-    fn next_of(
+    /// The statements of a block from `next` on, up to the first that needs more than the values, or
+    /// to its end.
+    pub(crate) fn go_on(
         &mut self,
         code: &'a CodeTree,
         columns: &Data,
@@ -152,17 +154,25 @@ impl<'a> Level<'a> {
             FrameTurn (context_of code.now columns.now) (frame.Block block.entry next floor left)
             self.old self.new step) }
     {
-        if next >= block.stmts.len() {
-            self.vars.truncate(floor);
-            return Ok(Step::Quiet);
+        for at in next..block.stmts.len() {
+            let stmt = block.stmts.get(at);
+            if !self.plain(columns, stmt)? {
+                self.frames.push(Frame::Block {
+                    block,
+                    next: at + 1,
+                    floor,
+                    left,
+                })?;
+                let step = self.statement(code, columns, stmt, left)?;
+                return Ok(step);
+            }
+            match self.flow {
+                Flow::Fell => {}
+                Flow::Back(_) => return Ok(Step::Quiet),
+                Flow::Fault(_) => return Ok(Step::Quiet),
+            }
         }
-        self.frames.push(Frame::Block {
-            block,
-            next: next + 1,
-            floor,
-            left,
-        })?;
-        let step = self.statement(code, columns, block.stmts.get(next), left)?;
-        Ok(step)
+        self.vars.truncate(floor);
+        Ok(Step::Quiet)
     }
 }

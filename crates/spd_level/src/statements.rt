@@ -1,6 +1,7 @@
 // Statements: each by the row of the language's table that it has.
 
-ghost use Rattle.std.specs.Prelude.{◌≡◌, ◌∷◌, [], true, IfOk, map};
+ghost use Rattle.std.specs.Prelude.{◌≡◌, ◌∷◌, [], ℕ, true, IfOk, map};
+ghost use Rattle.spd_code.specs.declared.tree.CodeTree.{CodeTree};
 ghost use Rattle.spd_meaning.specs.Acts.{Offer, Line};
 ghost use Rattle.spd_meaning.specs.Eval.{Fell, Back, quiet, before, with_value, with_line};
 ghost use Rattle.spd_meaning.specs.Values.{all_texts};
@@ -8,7 +9,7 @@ ghost use Rattle.spd_meaning.specs.Meaning.{collecting};
 ghost use Rattle.spd_code.specs.Coded.{code_value, code_part_value, around_of, eval_stmt};
 ghost use Rattle.spd_level.specs.Columns.{around_columns, context_of};
 ghost use Rattle.spd_code.specs.Places.{bind_if, put_at};
-ghost use Rattle.spd_level.specs.Turn.{StatementDone, StatementTurn};
+ghost use Rattle.spd_level.specs.Turn.{PlainTurn, StatementDone, StatementTurn};
 ghost use Rattle.spd_level.specs.declared.frame.Flow.TheVariants as flow;
 ghost use Rattle.spd_level.specs.declared.step.Step.TheVariants as step;
 
@@ -93,6 +94,30 @@ impl<'a> Level<'a> {
                 let step = self.print(parts, columns, stmt.line)?;
                 Ok(step)
             }
+        }
+    }
+
+    /// The same without any frame, where a statement needs nothing but the values: `false` where it
+    /// needs more, and hasn't run.
+    pub(crate) fn plain(&mut self, columns: &Data, stmt: &CodeStmt) -> Result<bool, AllocError>
+        requires { self.old.flow ≡ flow.Fell }
+        ensures { (code : CodeTree) (left : ℕ) → IfOk result (λ ran. PlainTurn self.old self.new ran
+            (eval_stmt (around_of (context_of code columns.now) left) stmt.now self.old.vars.items)) }
+    {
+        match &stmt.what {
+            CodeStmtKind::Let { value } => {
+                self.bind(value, columns, stmt.line)?;
+                Ok(true)
+            }
+            CodeStmtKind::Assign { place, value } => {
+                self.assign(*place, value, columns, stmt.line);
+                Ok(true)
+            }
+            CodeStmtKind::Return { value } => {
+                self.give_back(value, columns, stmt.line);
+                Ok(true)
+            }
+            _ => Ok(false),
         }
     }
 

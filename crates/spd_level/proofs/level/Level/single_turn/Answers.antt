@@ -9,7 +9,7 @@ use Rattle.spd_level.proofs.level.Level.single_turn.Goals as goal
 pub returns-in_ok-step-in-Fell : goal.returns-in_ok-step-in-Fell
 returns-in_ok-step-in-Fell c =
     popped_turned (context_of c.args.code.now c.args.columns.now) c.args.self.now
-    (record { flow = c.args.self.now.flow; vars = c.args.self.now.vars; frames = c.pop.new.self }) c.next_of.new.self
+    (record { flow = c.args.self.now.flow; vars = c.args.self.now.vars; frames = c.pop.new.self }) c.go_on.new.self
     (frame.Block c.in-Some-Block.block c.in-Some-Block.next c.in-Some-Block.floor c.in-Some-Block.left) c.in_ok-step-in-Fell.step
     (rw c.in-Some-Block.field-0-is at c.in-Some-Block.ensures.items) refl refl c.in_ok-step-in-Fell.ensures
 
@@ -41,16 +41,15 @@ returns-in-Fault c =
     })
     c.in-Some-Block.block c.in-Some-Block.next c.in-Some-Block.floor c.in-Some-Block.left c.in-Fault.field-0 c.in-Fault.is)
 
-pub returns-in_ok-turn_of-in-Fell-flow : goal.returns-in_ok-turn_of-in-Fell-flow
-returns-in_ok-turn_of-in-Fell-flow c =
+pub returns-in_ok-step-in-Fell-flow : goal.returns-in_ok-step-in-Fell-flow
+returns-in_ok-step-in-Fell-flow c =
     let f : FitsSigned w64 c.in-Some-For.at = search rules in
     let g : FitsSigned w64 c.in-Some-For.end = search rules in
     popped_turned (context_of c.args.code.now c.args.columns.now) c.args.self.now
     (record { flow = c.args.self.now.flow; vars = c.args.self.now.vars; frames = c.pop.new.self }) c.turn_of.new.self
-    (frame.For c.in-Some-For.body c.in-Some-For.at c.in-Some-For.end c.in-Some-For.left) step.Quiet
+    (frame.For c.in-Some-For.body c.in-Some-For.at c.in-Some-For.end c.in-Some-For.left) c.in_ok-step-in-Fell-flow.step
     (rw c.in-Some-For.field-0-is at c.in-Some-For.ensures.items) refl refl
-    (rw (to_z-of_z w64 c.in-Some-For.at f, to_z-of_z w64 c.in-Some-For.end g) at (c.in_ok-turn_of-in-Fell-flow.ensures (context_of c.args.code.now
-    c.args.columns.now)))
+    (rw (to_z-of_z w64 c.in-Some-For.at f, to_z-of_z w64 c.in-Some-For.end g) at c.in_ok-step-in-Fell-flow.ensures)
 
 pub returns-in-Back-flow : goal.returns-in-Back-flow
 returns-in-Back-flow c =
